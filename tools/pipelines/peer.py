@@ -119,7 +119,7 @@ def hands_on(tell):
 class Hub(ConnectableObservable):
     """publish(), which remembers no end: who comes behind that waits for the next connection."""
 
-    asker = types.SimpleNamespace(is_stopped=False, is_past=False, by=None, inner=None, goes_on=None, exchanges=False)
+    asker = types.SimpleNamespace(is_stopped=False, is_past=False, by=None, inner=None, goes_on=None, exchanges=False, is_node=False, is_composition=False)
 
     def __init__(self, source):
         super().__init__(source, Subject())
@@ -167,6 +167,14 @@ class Asked(AutoDetachObserver):
         if not self.is_past:
             super().on_next(value)
 
+    def on_error(self, error):
+        if not self.is_past:
+            super().on_error(error)
+
+    def on_completed(self):
+        if not self.is_past:
+            super().on_completed()
+
     @property
     def is_past(self):
         """Whether it has ended, or one above."""
@@ -198,7 +206,7 @@ def subscribe_asked(self, on_next=None, on_error=None, on_completed=None, schedu
     if it.is_past:
         return Disposable()
     it.is_composition, it.goes_on = getattr(self, "is_composition", False), getattr(self, "goes_on", None)
-    it.exchanges = getattr(self, "exchanges", False)
+    it.exchanges, it.is_node = getattr(self, "exchanges", False), getattr(self, "is_node", False)
     if it.is_composition or getattr(self, "is_create", False):
         it.inner = Lane()
 
@@ -230,7 +238,7 @@ def connected_for_all(connect):
 class Connection:
     """For whom the source of a connectable is subscribed to: for no observer, in a lane of its own."""
 
-    is_stopped = is_past = exchanges = False
+    is_stopped = is_past = exchanges = is_node = is_composition = False
     by, goes_on = None, "connection"
 
     def __init__(self):
@@ -311,11 +319,23 @@ class InLane(Asked):
     def __init__(self, *calls):
         super().__init__(*calls)
         self.lane = self.inner = Lane() if self.by is None else self.by.inner
-        self.is_composition, self.goes_on, self.exchanges, self.behind = False, None, False, []
+        self.is_composition, self.is_node, self.goes_on, self.exchanges, self.behind = False, False, None, False, []
+        self.is_noted = self.stands_below_a_node()
+
+    def stands_below_a_node(self):
+        """Whether it tells a function on items that stands below a node: that is called as the item is noted, before anybody is told."""
+        it = self.by
+        if it is None or it.by is None or it.is_node or it.is_composition:
+            return False
+        while it.by is not None and not it.by.is_composition:
+            it = it.by
+            if it.is_node:
+                return True
+        return False
 
     def told(self, call):
         """Calls it in the lane; whether that has been."""
-        if self.lane is None:  # a hub's, which tells its own at once
+        if self.lane is None or self.is_noted and Lane.now is not self.lane:  # a hub's, which tells its own at once
             call()
             return True
         if Lane.now is self.lane:
@@ -445,6 +465,24 @@ def marked(name, value=True):
     return mark
 
 
+def projected(make):
+    """An operator of which the function that makes inner observables is called as its item is told."""
+    def makes(*given, **more):
+        if composed.is_within:
+            return make(*given, **more)
+        if given and isinstance(given[0], Observable):
+            return make(node(given[0]), *given[1:], **more)
+        found = make(*given, **more)
+        return lambda source: found(node(source))
+    return makes
+
+
+def node(source):
+    found = Observable(lambda it, scheduler=None: source.subscribe_(it.on_next, it.on_error, it.on_completed, scheduler))
+    found.is_node = True
+    return found
+
+
 def composed(make):
     """An operator that has subscriptions of its own; those that RxPY makes it of have none."""
     def makes(*given, **more):
@@ -498,13 +536,18 @@ COMPOSED = {
 
 
 def bounded(make):
-    """merge() has subscriptions of its own where it has a bound."""
-    return lambda *sources, max_concurrent=None: (make if max_concurrent is None else composed(make))(*sources, max_concurrent=max_concurrent)
+    """merge() has subscriptions of its own where it has a bound, and goes on with the next."""
+    whole = composed(marked("goes_on", "completes")(make))
+    return lambda *sources, max_concurrent=None: (make if max_concurrent is None else whole)(*sources, max_concurrent=max_concurrent)
 
 
 IN_LANES = [
     *NOTHING_BEHIND_THE_END, ("core.operators.publish", "_publish", published), (Asked, "of", lambda _: InLane),
     *[(Subject, f"on_{it}", told_to_all) for it in ("next", "error", "completed")], ("core.operators.merge", "_merge", bounded),
+    *[(f"core.{it}", name, marked("is_node")) for it, name in (
+        ("observable.using", "_using"), ("observable.defer", "_defer"), ("operators.merge", "_merge_all"), ("operators.switchlatest", "_switch_latest"),
+        ("observable.concat", "_concat_with_iterable"), ("operators.finallyaction", "_finally_action"), ("operators.takeuntil", "_take_until"))],
+    ("core.operators.flatmap", "_flat_map_internal", projected), ("core.operators.flatmap", "_flat_map_latest", projected),
     ("core.operators.switchlatest", "_switch_latest", marked("exchanges")), (rx, "create", marked("is_create")), ("core.observable.concat", "_concat_with_iterable", marked("goes_on", "completes")),
     ("core.observable.catch", "_catch_with_iterable", marked("goes_on", "fails")), ("core.operators.catch", "_catch", marked("goes_on", "fails")),
     ("core.observable.onerrorresumenext", "_on_error_resume_next", marked("goes_on", "ends")),

@@ -155,6 +155,9 @@ class World:
         self.subjects.append(it)
         return it
 
+    def text(self, value):
+        return says(value).replace("!", "")
+
     def item(self, k):
         return lambda value, *_: (self.called(k, "projection"), value)[1]
 
