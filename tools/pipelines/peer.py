@@ -123,6 +123,7 @@ class Hub(ConnectableObservable):
 
     def __init__(self, source):
         super().__init__(source, Subject())
+        self.many, self.of = 0, None
 
     def connect(self, scheduler=None):
         if not self.has_subscription:
@@ -140,6 +141,35 @@ class Hub(ConnectableObservable):
             this.add(Disposable(leave))
             this.add(self.source.subscribe_(subject.on_next, lambda error: end(lambda: subject.on_error(error)), lambda: end(subject.on_completed), scheduler))
         return self.subscription
+
+
+def counted(make):
+    """ref_count() of a hub: as its source ends it has no subscribers any more, and who comes next connects it anew."""
+    def ref_count():
+        count = make()
+
+        def operate(source):
+            if not isinstance(source, Hub):
+                return count(source)
+
+            def subscribe(observer, scheduler=None):
+                mine = source.subject
+                source.many = source.many + 1 if source.of is mine else 1
+                source.of = mine
+                heard = mine.subscribe_(observer.on_next, observer.on_error, observer.on_completed, scheduler)
+                if source.many == 1 and source.of is mine:
+                    source.connect(scheduler)
+
+                def leave():
+                    heard.dispose()
+                    if source.of is mine and source.subject is mine:
+                        source.many -= 1
+                        if not source.many and source.subscription is not None:
+                            source.subscription.dispose()
+                return Disposable(leave)
+            return Observable(subscribe)
+        return operate
+    return ref_count
 
 
 def published(make):
@@ -208,7 +238,7 @@ def subscribe_asked(self, on_next=None, on_error=None, on_completed=None, schedu
     it.is_composition, it.goes_on = getattr(self, "is_composition", False), getattr(self, "goes_on", None)
     it.exchanges, it.is_node = getattr(self, "exchanges", False), getattr(self, "is_node", False)
     if it.is_composition or getattr(self, "is_create", False):
-        it.inner = Lane()
+        it.inner = Lane(True)
 
     def begin(*_):
         try:
@@ -280,8 +310,8 @@ class Lane:
     told = None  # where a subject tells all of its observers: the lanes of these
     depth, later = 0, collections.deque()  # how many subjects are at it, and what comes behind all that is under way
 
-    def __init__(self):
-        self.waiting, self.is_at_work = collections.deque(), False
+    def __init__(self, of_composition=False):
+        self.waiting, self.is_at_work, self.of_composition = collections.deque(), False, of_composition
 
     def tell(self, call):
         """Whether it was told, or waits."""
@@ -293,13 +323,21 @@ class Lane:
         return not self.is_at_work and Lane.told is None
 
     def serve(self):
+        """What this thread's scheduler puts off meanwhile comes behind what a composition is told."""
         if not self.is_at_work:
-            self.is_at_work = True
-            try:
-                while self.waiting:
-                    served(self, self.waiting.popleft())
-            finally:
-                self.is_at_work = False
+            trampoline = CurrentThreadScheduler.singleton()
+            if self.of_composition and trampoline.schedule_required():
+                trampoline.schedule(self.work)
+            else:
+                self.work()
+
+    def work(self, *_):
+        self.is_at_work = True
+        try:
+            while self.waiting:
+                served(self, self.waiting.popleft())
+        finally:
+            self.is_at_work = False
 
 
 def served(lane, call):
@@ -418,6 +456,11 @@ def told_to_all(tell):
     return tells
 
 
+def scheduled_at_once(invoke):
+    """What is done at once is not done for who has ended."""
+    return lambda self, *given, **more: Disposable() if Asked.asking is not None and Asked.asking.is_past else asked(Asked.asking, invoke)(self, *given, **more)
+
+
 def scheduled_in_lane(init):
     """What a composition puts off is done in its lane."""
     def make(self, scheduler, state, action, duetime):
@@ -519,7 +562,8 @@ def by_order(_):
 
 
 NOTHING_BEHIND_THE_END = [
-    (Observable, "subscribe_", lambda _: subscribe_asked), (ScheduledItem, "__init__", scheduled), (World, "do", done_for_nobody),
+    (Observable, "subscribe_", lambda _: subscribe_asked), (ScheduledItem, "__init__", scheduled), (ImmediateScheduler, "schedule", scheduled_at_once),
+    (World, "do", done_for_nobody),
     (ConnectableObservable, "connect", connected_for_all), (Hub, "connect", connected_for_all), ("core.operators.amb", "_amb", other_of_amb)]
 #: Where operators stand that have subscriptions of their own.
 COMPOSED = {
@@ -542,7 +586,7 @@ def bounded(make):
 
 
 IN_LANES = [
-    *NOTHING_BEHIND_THE_END, ("core.operators.publish", "_publish", published), (Asked, "of", lambda _: InLane),
+    *NOTHING_BEHIND_THE_END, ("core.operators.publish", "_publish", published), ("core.operators.connectable.refcount", "_ref_count", counted), (Asked, "of", lambda _: InLane),
     *[(Subject, f"on_{it}", told_to_all) for it in ("next", "error", "completed")], ("core.operators.merge", "_merge", bounded),
     *[(f"core.{it}", name, marked("is_node")) for it, name in (
         ("observable.using", "_using"), ("observable.defer", "_defer"), ("operators.merge", "_merge_all"), ("operators.switchlatest", "_switch_latest"),
@@ -561,12 +605,12 @@ ROWS = [
     ("delay_with_mapper tells an item once", "delay_with_mapper", [("core.operators.delaywithmapper", "_delay_with_mapper", delayed)]),
     ("a replay tells at once", "replay replay_counted replay_of ReplaySubject", [("subject.replaysubject", "CurrentThreadScheduler", lambda _: ImmediateScheduler)]),
     ("time_interval hands the subscription's scheduler on", "time_interval", [("core.operators.timeinterval", "_time_interval", hands_on)]),
-    ("take_until does too", "take_until take_until_never", [("core.operators.takeuntil", "_take_until", hands_on)]),
+    ("take_until and pairwise do too", "take_until take_until_never pairwise", [(f"core.operators.{it}", f"_{name}", hands_on) for it, name in (("takeuntil", "take_until"), ("pairwise", "pairwise"))]),
     ("skip_until ends with its source", "skip_until", [("core.operators.skipuntil", "_skip_until", lambda _: skip_until)]),
     ("zip pairs what waits", "zip zip_of publish_value", [("core.observable.zip", "_zip", lambda _: zipped)]),
     ("sample ends with its source", "sample sample_time", [("core.operators.sample", "sample_observable", sampled)]),
     ("a share, or what is published, has no end that it remembers", "share share_of publish_of publish_counted partition", [
-        ("core.operators.publish", "_publish", published)]),
+        ("core.operators.publish", "_publish", published), ("core.operators.connectable.refcount", "_ref_count", counted)]),
     ("what has ended is connected for nobody", "replay_counted multicast_counted publish_value_counted", [(ConnectableObservable, "connect", connected)]),
     ("merge subscribes to all at once", "merge merge_of lasting publish replay", [("core.observable.merge", "_merge", merged)]),
     ("subscribe_on disposes at once", "subscribe_on", [("core.operators.subscribeon", "ScheduledDisposable", lambda _: lambda _, it: it)]),
