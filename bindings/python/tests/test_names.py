@@ -10,6 +10,7 @@ from tests.kits import rxpy
 
 PACKAGE = pathlib.Path(__file__).resolve().parent.parent
 MODULES = ("", ".operators", ".subject", ".disposable", ".scheduler", ".core", ".core.typing", ".testing")
+INSIDES = {"core", "disposable", "internal", "scheduler", "subject", "testing"}
 #: What RxPY's modules have of Python's and of their own insides.
 INSIDE = {"GroupedObservable", "NotSet", "alias", "cast", "overload", "internal", "Mapping", "Future", "Subject", "ScheduledItem"}
 
@@ -55,6 +56,20 @@ class Names(unittest.TestCase):
                     self.assertTrue(hasattr(mine, method))
                     if inspect.isfunction(getattr(theirs, method)):
                         self.assertEqual(parameters(getattr(mine, method)), parameters(getattr(theirs, method)))
+
+    @unittest.skipIf(rxpy is None, "RxPY is not installed")
+    def test_each_module_of_rxpy(self):
+        top = pathlib.Path(rxpy.__file__).parent
+        for file in sorted(top.rglob("*.py")):
+            name = ".".join(file.relative_to(top).with_suffix("").parts).replace(".__init__", "")
+            parts = name.split(".")
+            if name == "__init__" or parts[0] not in INSIDES or "eventloop" in parts[1:] or len(parts) > 2:
+                continue
+            with self.subTest(module=name):
+                try:
+                    importlib.import_module(f"cellarcliff.rx.{name}")
+                except ModuleNotFoundError as why:
+                    self.assertIn(f"what users need of it is in cellarcliff.rx.{parts[0]}", str(why))
 
     def test_no_module_hides_rxpy(self):
         names = [it.stem for folder in (PACKAGE, PACKAGE / "cellarcliff", PACKAGE / "examples") for it in folder.glob("rx.py")]

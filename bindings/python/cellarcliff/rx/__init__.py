@@ -15,6 +15,7 @@ import importlib
 from typing import TYPE_CHECKING, Any, Callable, Iterable, Optional, Tuple, Type, TypeVar, Union, overload
 
 from . import _alone  # first: it refuses before ctypes is imported
+from . import _modules
 from .._nearest import lacking
 from ._engine import _hook, _print, current, use
 from ._observable import Observable, Observer, pipe, to_observable

@@ -12,7 +12,7 @@ import threading
 from typing import Any, Callable, List, NamedTuple, Optional, Tuple
 
 from .._refused import REFUSALS, Refused
-from ._cellar import (ABORT, CONNECT, CONNECTED, DECLINE, DISCONNECT, FAIL, FULL, GONE, HUB_ORDER, LANE_OF_NODE, LEAF, NO_HUB, NO_MEMORY,
+from ._cellar import (ABORT, CONNECT, CONNECTED, DECLINE, DISCONNECT, FAIL, FULL, GONE, LANE_OF_NODE, LEAF, NO_HUB, NO_MEMORY,
                       NOT_CONNECTED, NOTHING_OWED, OF_PROJECTIONS, OPEN, PASS, PUT, ROOT, SHUT, SOURCE, USING, WISHES, Lent)
 from ._crossing import C, IS_EXTENSION, bind
 
@@ -172,17 +172,6 @@ class Engine:
         return not status
 
     # shares
-
-    def share(self, at: At, share: Any, leaf: Any) -> Tuple[int, Any]:
-        """Opens a subscriber of a share, with the leaf that stops as it closes: the status, and the connection if there is a new one."""
-        leaf.above = at.holder
-        status, node, connection, hub = self.core.share(share.opens | at.place << 8 | at.flags << 24, at.above, (at.root, leaf, None), share.word,
-                                                        share.hub, None, at.is_exchange)
-        if status == 0:
-            at.node, share.hub = node, hub
-        elif status not in (HUB_ORDER, NO_HUB):
-            refuse(status)
-        return status, connection
 
     def connect(self, share: Any, leaf: Any) -> Any:
         """The connection, if there was none, with the leaf that is called as it closes."""

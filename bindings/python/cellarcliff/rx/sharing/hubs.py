@@ -26,7 +26,7 @@ class _Share:
         self._engine: Any = None  # in which that is
         self._subscribers = C.Subject()  # of their leaves, while they are open: held by what is below the connection
         self._level: Optional[int] = None
-        self._opens = 0
+        self._opens = 0  # the command that opens a subscriber, but for its place
 
     @property
     def level(self) -> int:
@@ -35,24 +35,27 @@ class _Share:
             self._level = level(self.source)
         return self._level
 
-    @property
-    def opens(self) -> int:
-        """The command that opens a subscriber, but for its place."""
-        self._opens = self._opens or OPEN | self.kind << 16 | WISHES << 24 | self.level << 32
-        return self._opens
-
     def open(self, at: At) -> int:
-        """Opens a subscriber: 0, HUB_ORDER where the order of hubs forbids it there, or NO_HUB."""
-        leaf, status = at.engine.core.leaf(None), NO_HUB
+        """Opens a subscriber, with a leaf that stops as it closes: 0, HUB_ORDER where the order of hubs forbids it there, or NO_HUB."""
+        core, status = at.engine.core, NO_HUB
+        leaf = core.leaf(None)
+        leaf.above = at.holder
         self._subscribers._join(leaf, leaf)
+        what = self._opens = self._opens or OPEN | self.kind << 16 | WISHES << 24 | self.level << 32
         try:
-            status, connection = at.engine.share(at, self, leaf)
+            status, node, connection, hub = core.share(what | at.place << 8 | at.flags << 24, at.above, (at.root, leaf, None), self.word, self.hub, None,
+                                                       at.is_exchange)
         finally:
             if status:
                 del self._subscribers._ups[leaf]
+        if status:
+            if status not in (HUB_ORDER, NO_HUB):
+                refuse(status)
+            return int(status)
+        at.node, self.hub = node, hub
         if connection is not None:
             self._open_source(at.engine, connection, self._leaf(at.engine, self._closed), at.scheduler)
-        return status
+        return 0
 
     @staticmethod
     def _leaf(engine: Engine, closed: Callable[[], Any]) -> Any:
