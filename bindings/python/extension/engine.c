@@ -354,9 +354,7 @@ static int root_ended(Root *root, PyObject *error) {
   return status;
 }
 /* A resource: a callable, or one in a tuple whose `dispose` is called. */
-static int release(PyObject *tag) {
-  return plain(PyTuple_Check(tag) ? PyObject_CallMethodObjArgs(ITEM(tag, 0), s_dispose, NULL) : CALL0(tag));
-}
+static int release(PyObject *tag) { return plain(PyTuple_Check(tag) ? PyObject_CallMethodObjArgs(ITEM(tag, 0), s_dispose, NULL) : CALL0(tag)); }
 /* Does what an effect says. The engine keeps the word of whoever hears an item. */
 static int tell(struct Mine *here, Core *core, const struct cellar_effect *e) {
   PyObject *user = word(e->user), *value = e->carries && e->value ? word(e->value) : NULL;
@@ -603,14 +601,18 @@ static int note(struct Mine *here, Leaf *leaf, uint8_t what, PyObject *value) {
   if (what != CELLAR_NEXT) leave_alone(leaf);
   return leaf->way ? note_alone(here, leaf, what, value) : note_there(here, leaf, what, value);
 }
+/* Whether what they stand at is over, as far as can be seen. */
+static int is_over(Chain *chain) {
+  Leaf *leaf = chain->leaf ? chain->leaf : (Leaf *)chain->relay;
+  return leaf ? leaf->is_stopped : !chain->down_next && ((Root *)chain->down)->is_stopped;
+}
 /* An item through functions, until one ends what they stand at: a new reference to what comes out; NULL where nothing does, with `failed` -1
  * where that is raised. */
 static PyObject *through(Chain *chain, PyObject *value, int *failed) {
   *failed = 0;
   Py_INCREF(value);
   for (Py_ssize_t i = 0; i < chain->many; i++) {
-    Leaf *leaf = chain->leaf ? chain->leaf : (Leaf *)chain->relay;
-    if (leaf ? leaf->is_stopped : !chain->down_next && ((Root *)chain->down)->is_stopped) return Py_DECREF(value), NULL;
+    if (is_over(chain)) return Py_DECREF(value), NULL;
     PyObject *answer = CALL1(ITEM(chain->steps, i), value);
     int passes = !answer ? -1 : !chain->kinds[i] || answer == Py_True ? 1 : answer == Py_False ? 0 : PyObject_IsTrue(answer);
     PyObject *over = passes > 0 && !chain->kinds[i] ? value : answer; /* a mapped item gives way */
@@ -703,7 +705,10 @@ static PyObject *chain_next(Chain *self, PyObject *value) { return chain_tells(s
 static PyObject *chain_error(Chain *self, PyObject *error) { return chain_tells(self, s_on_error, error); }
 static PyObject *chain_completed(Chain *self, PyObject *Py_UNUSED(unused)) { return chain_tells(self, s_on_completed, NULL); }
 static PyObject *chain_dispose(Chain *Py_UNUSED(self), PyObject *Py_UNUSED(unused)) { Py_RETURN_NONE; }
-static PyObject *chain_is_stopped(Chain *self, void *Py_UNUSED(unused)) { return PyBool_FromLong(self->emits && self->emits->is_stopped); }
+static PyObject *chain_is_stopped(Chain *self, void *Py_UNUSED(unused)) {
+  if (!self->emits && self->down_next && !self->leaf && !self->relay) return PyObject_GetAttrString(self->down, "is_stopped");
+  return PyBool_FromLong(self->emits ? self->emits->is_stopped : is_over(self));
+}
 static PyMethodDef chain_methods[] = {{"on_next", (PyCFunction)chain_next, METH_O, NULL}, {"on_error", (PyCFunction)chain_error, METH_O, NULL},
                                       {"on_completed", (PyCFunction)chain_completed, METH_NOARGS, NULL}, {"dispose", (PyCFunction)chain_dispose, METH_NOARGS, NULL}, {NULL, NULL, 0, NULL}};
 static PyMemberDef chain_members[] = {{"down", T_OBJECT, offsetof(Chain, down), READONLY, NULL}, {NULL, 0, 0, 0, NULL}};
@@ -755,10 +760,7 @@ static PyObject *root_unsubscribe(Root *self, PyObject *Py_UNUSED(unused)) {
   if (!status && self->ending == here && self->ending_at == here->telling.stack.depth) status = go_through(self->core, 1);
   return none_or_null(leave(here, &outer, status, 0));
 }
-static PyObject *root_next(Root *self, PyObject *value) {
-  if (self->is_stopped) Py_RETURN_NONE;
-  return CALL1(self->on_next, value);
-}
+static PyObject *root_next(Root *self, PyObject *value) { return self->is_stopped ? none_or_null(0) : CALL1(self->on_next, value); }
 static PyObject *root_error(Root *self, PyObject *error) { return none_or_null(root_end(self, error)); }
 static PyObject *root_completed(Root *self, PyObject *Py_UNUSED(unused)) { return none_or_null(root_end(self, NULL)); }
 static PyObject *root_head(Root *self, void *Py_UNUSED(unused)) { return new_of(self->head ? self->head : Py_None); }
@@ -1261,8 +1263,7 @@ static PyObject *behind(PyObject *Py_UNUSED(module), PyObject *call) {
 }
 /* Tells what stands behind what is told to a root: of one that has ended, what it held. */
 static PyObject *finish(PyObject *Py_UNUSED(module), PyObject *root) {
-  Core *core = ((Root *)root)->core;
-  return none_or_null(mine.telling.core == core ? go_through(core, 1) : 0);
+  return none_or_null(mine.telling.core == ((Root *)root)->core ? go_through(mine.telling.core, 1) : 0);
 }
 static PyObject *forked(PyObject *Py_UNUSED(module), PyObject *Py_UNUSED(unused)) { return generation++, none_or_null(0); }
 /* What is told, its leaf, and an iterator: its items, until the leaf is closed. Whether it came to its end. */

@@ -312,6 +312,13 @@ class InSteps(Case):
 
 
 class Small(Case):
+    def test_the_last_items_end_with_what_one_of_them_ends(self):
+        for last in ops.take_last(3), ops.take_last_with_time(10.0, scheduler=TestScheduler()):
+            for wrap in (lambda source: source), (lambda source: rx.merge(source, rx.never())):
+                seen, told = [], []
+                wrap(rx.of(1, 2, 3).pipe(last, ops.do_action(seen.append), ops.map(lambda it: 1 // 0))).subscribe(None, told.append)
+                self.assertEqual((seen, len(told)), ([1], 1))
+
     def test_an_item_as_old_as_the_span_is_one_of_the_last(self):
         clock, subject, told = TestScheduler(), Subject(), []
         subject.pipe(ops.take_last_with_time(0.5, scheduler=clock)).subscribe(told.append)

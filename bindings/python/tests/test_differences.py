@@ -150,6 +150,21 @@ def two_ways_to_one_operator(k, told):
     subject.on_next(2)
 
 
+def an_exchange_by_its_own_source(k, told):
+    subject = k.Subject()
+    subject.pipe(k.ops.flat_map_latest(lambda _: subject)).subscribe(told.append)
+    for it in 1, 2, 3:
+        subject.on_next(it)
+
+
+def a_function_below_a_node(k, told):
+    subject = k.Subject()
+    mapped = subject.pipe(k.ops.map(lambda it: told.append("called") or it), k.ops.flat_map(k.rx.just))
+    for name in "ab":
+        mapped.subscribe(lambda _, name=name: told.append(name))
+    subject.on_next(1)
+
+
 def a_replay_within_what_subscribes(k, told):
     hub = k.rx.of(1).pipe(k.ops.replay())
     hub.connect()
@@ -193,6 +208,8 @@ ROWS = {
     a_composition_completes: ([1, "completed", "released"], [1, "released", "completed"]),
     a_subject_is_dropped: ([], ["released"]),
     two_ways_to_one_operator: ([(1, 1), (2, 1), (2, 2)], [(1, 1), (1, 2), (2, 2)]),
+    an_exchange_by_its_own_source: ([], [2, 3]),
+    a_function_below_a_node: (["called", "a", "called", "b"], ["called", "called", "a", "b"]),
     a_replay_within_what_subscribes: (["completed"], [1, "completed"]),
     the_least_text: (["error"], ["a"]),
     a_source_behind_the_end: (["completed", "made", "released"], ["completed"]),

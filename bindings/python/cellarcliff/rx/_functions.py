@@ -22,6 +22,11 @@ class Stage:
     def __init__(self, down: Any):
         self.down = down
 
+    @property
+    def is_stopped(self) -> bool:
+        """Whether what it stands at is over, as far as can be seen: for who tells several items."""
+        return bool(getattr(self.down, "is_stopped", False))
+
     def start(self) -> None:
         """Before the source is subscribed to."""
 
@@ -41,6 +46,7 @@ class Stage:
 
 
 class _Deaf:
+    is_stopped = True
     on_next = on_error = on_completed = staticmethod(noop)
 
 
@@ -186,6 +192,10 @@ class _Relay:
 
     # what the last of the functions calls
 
+    @property
+    def is_stopped(self) -> bool:
+        return bool(self.node_is.is_stopped)
+
     def on_next(self, value: Any) -> None:
         if self._leaf is None:
             self._leaf = Leaf(self._engine.core)
@@ -227,6 +237,10 @@ class _Last:
 
     def __init__(self, up: Any, root: Any):
         self._up, self._root, self.on_next = up, root, up.on_next
+
+    @property
+    def is_stopped(self) -> bool:
+        return bool(self._up.is_stopped)
 
     def _let_go(self) -> None:
         is_over = self._root.is_over  # then its end is what its lane tells, and its releases stand behind that

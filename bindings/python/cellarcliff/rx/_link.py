@@ -161,6 +161,10 @@ class _Last:
     def __init__(self, link: Link):
         self.on_next, self._link = link.leaf.on_next, link
 
+    @property
+    def is_stopped(self) -> bool:
+        return self._link.is_stopped
+
     def on_error(self, error: Exception) -> None:
         self._link.ends(lambda: self._link.leaf.on_error(error))
 

@@ -540,7 +540,8 @@ class Chain:
 
     @property
     def is_stopped(self) -> bool:
-        return self._emits is not None and self._emits.is_stopped
+        of = self._emits or self._at or self.down
+        return bool(of.is_stopped)
 
     def _tells(self, tell: Callable[..., Any], *given: Any) -> None:
         """What create() gives, and timers have, emits from anywhere, and it is told before the call ends."""

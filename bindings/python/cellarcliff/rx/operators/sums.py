@@ -333,7 +333,7 @@ class _TakeLast(Stage):
         if self._is_one:
             self.down.on_next(self._queue)
         else:
-            while self._queue:
+            while self._queue and not self.is_stopped:
                 self.down.on_next(self._queue.pop(0))
         self.down.on_completed()
 

@@ -471,7 +471,7 @@ class _LastOf(Stage):
             self._trim(now)
         else:
             for at, value in self._queue:
-                if now - at <= self._span:
+                if now - at <= self._span and not self.is_stopped:
                     self.down.on_next(value)
         self.down.on_completed()
 
