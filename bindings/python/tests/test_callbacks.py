@@ -312,6 +312,16 @@ class InSteps(Case):
 
 
 class Small(Case):
+    def test_a_release_that_is_interrupted_leaves_nothing_open(self):
+        def interrupted():
+            raise KeyboardInterrupt
+        source, inner = BehaviorSubject(0), Subject()
+        held = rx.using(lambda: Disposable(interrupted), lambda _: source)
+        subscription = held.pipe(ops.map(lambda _: inner), ops.merge(max_concurrent=3)).subscribe()
+        self.assertRaises(KeyboardInterrupt, subscription.dispose)
+        rx.empty().subscribe()  # closings that an interrupt left are heard with the next call
+        self.assertEqual((inner.observers, source.observers, self.engine.counts().nodes), ([], [], 0))
+
     def test_the_last_items_end_with_what_one_of_them_ends(self):
         for last in ops.take_last(3), ops.take_last_with_time(10.0, scheduler=TestScheduler()):
             for wrap in (lambda source: source), (lambda source: rx.merge(source, rx.never())):

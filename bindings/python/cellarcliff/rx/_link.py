@@ -5,6 +5,7 @@ order, with no lock. When the leaf goes the roots go, and with them what they ho
 """
 from __future__ import annotations
 
+from functools import partial
 from typing import Any, Callable, Dict, List, Optional, Tuple
 
 from ._cellar import LEAF, ROOT
@@ -41,10 +42,7 @@ class Link:
         roots, self._roots, held, self._held = self._roots, {}, self._held, []
         for it in roots:
             it.is_stopped = True  # what stands in the lane for one of them is not told as another goes
-        for it in (*reversed(tuple(roots)), self._keeper):
-            it.dispose()
-        for it in held:
-            _dispose(it)
+        _each([*(partial(_dispose, it) for it in reversed(held)), self._keeper.dispose, *(it.dispose for it in roots)])
 
     # what is told
 
@@ -144,6 +142,16 @@ class Link:
         def action(*_: Any) -> None:
             C.call(self.later, call)
         return scheduler.schedule(action) if due is None else scheduler.schedule_relative(due, action)
+
+
+def _each(calls: List[Call]) -> None:
+    """Calls each, the last first, also where one is interrupted."""
+    try:
+        while calls:
+            calls.pop()()
+    finally:
+        if calls:
+            _each(calls)
 
 
 def _dispose(timer: Any) -> None:
