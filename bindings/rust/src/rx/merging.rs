@@ -185,7 +185,8 @@ impl<'a, T: Moves + 'a, E: Moves + 'a> Observable<'a, T, E> {
         self.merging(kind::FLAT, f)
     }
 
-    /// An observable for each item; the one before is closed, and has released what it had, before this one is subscribed to.
+    /// An observable for each item; the one before is closed, and has released what it had, before this one is subscribed to; or another
+    /// thread, which is telling the observer then, releases it behind that.
     pub fn switch_map<U: 'a>(&self, f: impl Fn(T) -> Observable<'a, U, E> + Fits + 'a) -> Observable<'a, U, E> {
         self.merging(kind::SWITCH, move |it| Ok(f(it)))
     }

@@ -143,6 +143,7 @@ pub fn run_all(seeds: std::ops::Range<u64>, room: u32, workers: usize) -> Result
     let one = |seed| {
         let program = Program::new(seed);
         let told = run(&program, &counts, room).map_err(|why| {
+            eprintln!("seed {seed}: {why}; looking for a smaller one");
             let (least, least_why) = shrink(program.clone(), why.clone(), room);
             format!("seed {seed}: {why}\nat least: {least_why}\n{least:?}")
         })?;

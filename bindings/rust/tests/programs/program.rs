@@ -71,21 +71,20 @@ pub struct Program {
 }
 
 /// Operators that tell each item once, in order, and call a function of which this says what it may do.
-pub const EXACT: [&str; 28] = [
+pub const EXACT: [&str; 27] = [
     "map", "try_map", "filter", "filter_map", "inspect", "tap", "map_err", "enumerate", "scan", "materialize", "distinct",
     "distinct_until_changed", "buffer_count", "default_if_empty", "fail_if_empty", "take", "take_while", "take_through", "using", "holding",
     "finalize", "defer", "flat_map", "concat_map", "flat_map_at_most", "switch_map", "start_with",
-    "switch_map_open",
 ];
 /// Those that do so as long as no source of theirs has ended.
 pub const UNTIL_AN_END: [&str; 6] = ["retry", "repeat", "or_else", "concat_with", "end_with", "create"];
 /// Those that tell the items of two.
 pub const OF_BOTH: [&str; 2] = ["merge", "merge_with"];
 /// Those that leave items out, or tell them at the end, in their order.
-pub const LESS: [&str; 24] = [
+pub const LESS: [&str; 25] = [
     "skip", "skip_while", "skip_last", "pairwise", "exhaust_map", "take_last", "last", "first", "fold", "reduce", "count", "max", "min",
     "all", "any", "to_vec", "zip", "zip_with", "with_latest_from", "skip_until", "take_until", "publish", "ref_count",
-    "at_most_open",
+    "at_most_open", "switch_map_open",
 ];
 /// Those that may tell an item again.
 pub const AGAIN: [&str; 4] = ["combine_latest", "combine_latest_with", "flat_map_other", "switch_map_other"];
@@ -179,6 +178,11 @@ impl Program {
     /// Whether an engine may be shut in it, in an order that nobody promises.
     pub fn shuts(&self) -> bool {
         format!("{self:?}").contains("Shut(")
+    }
+
+    /// Whether one thread does all in its engines.
+    pub fn is_alone(&self) -> bool {
+        self.threads == 1 && !(self.is_sync && format!("{self:?}").contains("Spawn("))
     }
 
     /// This program with one thing left out.

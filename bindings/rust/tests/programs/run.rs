@@ -208,7 +208,7 @@ pub struct World {
     pub open: Arc<AtomicIsize>,
     depth: AtomicUsize,
     one_thread: bool,
-    threads: AtomicUsize, // which one waits for within another
+    is_alone: bool, // no other thread tells anything, so what closes has released
     state: Mutex<State>,
     scopes: Vec<Scope<'static>>,
     subjects: Vec<Subject<'static, Item, Item>>,
@@ -268,9 +268,9 @@ impl Drop for Released {
 struct Within(Arc<AtomicUsize>);
 
 impl Within {
-    fn new(open: &Arc<AtomicUsize>, most: usize, world: &Weak<World>) -> Within {
+    fn new(name: &str, open: &Arc<AtomicUsize>, most: usize, world: &Weak<World>) -> Within {
         if open.fetch_add(1, SeqCst) >= most {
-            world.upgrade().into_iter().for_each(|it| it.wrong(format!("more than {most} are open at a time")))
+            world.upgrade().into_iter().for_each(|it| it.wrong(format!("more than {most} of {name} are open at a time")))
         }
         Within(open.clone())
     }
@@ -425,7 +425,7 @@ impl World {
                     let released = seen.released.clone().filter(|_| !seen.is_over); // else they stand behind the end, which it may be told now
                     (seen.subscription.take(), released)
                 };
-                let is_due = subscription.is_some() && self.one_thread && self.threads.load(SeqCst) == 0;
+                let is_due = subscription.is_some() && self.is_alone;
                 drop(subscription); // outside the lock
                 if is_due && released.is_some_and(|it| !it.load(SeqCst)) {
                     self.wrong("what a subscription holds is not released as it has been disposed of".into())
@@ -450,11 +450,7 @@ impl World {
                 self.state().is_short = true; // what another engine's subscribers share may have been here
                 self.scopes[at % self.scopes.len()].shut()
             }
-            Act::Spawn(ref act) => {
-                self.threads.fetch_add(1, SeqCst);
-                super::spawn(self, act);
-                self.threads.fetch_sub(1, SeqCst);
-            }
+            Act::Spawn(ref act) => super::spawn(self, act),
         }
     }
 
@@ -774,9 +770,10 @@ impl Builder<'_> {
                 let world = self.world.clone();
                 Observable::defer(move || {
                     let (open, world) = (Arc::default(), world.clone());
+                    let most = if world.upgrade().is_some_and(|it| it.is_alone) { 1 } else { usize::MAX };
                     it.switch_map(move |it| {
                         let (open, world) = (Arc::clone(&open), world.clone());
-                        Observable::never().start_with([it]).holding(move || Within::new(&open, 1, &world))
+                        Observable::never().start_with([it]).holding(move || Within::new("switch_map", &open, most, &world))
                     })
                 })
             }
@@ -786,7 +783,7 @@ impl Builder<'_> {
                     let (open, world, until) = (Arc::default(), world.clone(), other.clone());
                     it.flat_map_at_most(most, move |it| {
                         let (open, world) = (Arc::clone(&open), world.clone());
-                        Observable::never().start_with([it]).take_until(&until).holding(move || Within::new(&open, most, &world))
+                        Observable::never().start_with([it]).take_until(&until).holding(move || Within::new("flat_map_at_most", &open, most, &world))
                     })
                 })
             }
@@ -839,7 +836,7 @@ pub fn run(program: &Program, counts: &Mutex<Counts>, room: u32) -> Result<Told,
         let connections = (0..many).map(|_| None).collect();
         let state = State { is_ended: vec![false; program.subjects], is_broken: vec![false; many], connections, ..State::default() };
         World {
-            live: live.clone(), open: Arc::default(), depth: AtomicUsize::new(0), one_thread: program.threads == 1, threads: AtomicUsize::new(0), state: Mutex::new(state),
+            live: live.clone(), open: Arc::default(), depth: AtomicUsize::new(0), one_thread: program.threads == 1, is_alone: program.is_alone(), state: Mutex::new(state),
             scopes: (0..program.engines).map(|_| Scope::with_room(room).expect("there is memory")).collect(),
             subjects: all.subjects, made: (0..program.subjects).map(|_| Mutex::default()).collect(), shapes: all.shapes, pipes: all.pipes,
             hooks: all.program.pipes.iter().map(|it| [it.hook.clone(), it.last.clone()]).collect(), published: all.published, counts: Mutex::default(),
