@@ -20,6 +20,15 @@ class FaultsTest {
         return Observable.using(made::incrementAndGet, it -> source, it -> released.incrementAndGet());
     }
 
+    /** Waits until what nobody can reach is disposed of. */
+    private static void expectCollected(Engine engine) throws InterruptedException {
+        for (int i = 0; i < 100 && Arrays.stream(engine.counts()).sum() > 0; i++) {
+            System.gc();
+            Thread.sleep(10);
+            Collected.closeAll();
+        }
+    }
+
     private void expectReleased(int many) {
         same(many, made.get());
         same(many, released.get());
@@ -286,6 +295,23 @@ class FaultsTest {
         expectReleased(2);
     }
 
+    /** An item that stands alone leaves it to the next call of the engine to end its own, whichever thread makes that. */
+    void whoever_comes_next_ends_the_call_of_an_item() throws Exception {
+        PublishSubject<Integer> s = PublishSubject.create(), other = PublishSubject.create();
+        List<Object> told = new ArrayList<>();
+        Disposable[] given = {held(s).subscribe(told::add), held(other).subscribe(v -> {
+            told.add(v);
+            s.onNext(v + 1);  // the call of this item goes on, that of the one within ends
+        })};
+        for (Runnable each : List.<Runnable>of(() -> s.onNext(1), () -> s.onNext(2), () -> other.onNext(10), () -> s.onNext(3), given[1]::dispose, () -> s.onNext(4), given[0]::dispose)) {
+            Thread thread = new Thread(each);
+            thread.start();
+            thread.join();
+        }
+        same(List.of(1, 2, 10, 11, 3, 4), told);
+        expectReleased(2);
+    }
+
     void what_nobody_can_reach_is_released() throws Exception {
         Engine engine = Engine.current();
         for (int i = 0; i < 2000; i++) {
@@ -296,12 +322,28 @@ class FaultsTest {
             s.publish().connect();
             s.onNext(1);
         }
-        for (int i = 0; i < 100 && Arrays.stream(engine.counts()).sum() > 0; i++) {
-            System.gc();
-            Thread.sleep(10);
-            Collected.closeAll();
-        }
+        expectCollected(engine);
         expectReleased(2000 + 1000);
+    }
+
+    /** RxJava's own replay stands over the engine's operators: what they hold is released with it. */
+    void what_is_replayed_is_released_as_its_subscribers_leave_or_nobody_can_reach_it() throws Exception {
+        PublishSubject<Integer> s = PublishSubject.create();
+        List<Integer> first = new ArrayList<>(), second = new ArrayList<>();
+        Observable<Integer> replayed = held(s.switchMap(v -> held(Observable.just(v).hide()))).replay(2).refCount();
+        Disposable one = replayed.subscribe(first::add);
+        for (int i = 0; i < 3; i++) { s.onNext(i); }
+        Disposable other = replayed.subscribe(second::add);
+        s.onNext(3);
+        one.dispose();
+        same(4, released.get());
+        other.dispose();
+        same(List.of(0, 1, 2, 3), first);
+        same(List.of(1, 2, 3), second);
+        expectReleased(5);
+        held(PublishSubject.create()).replay().connect();
+        expectCollected(Engine.current());
+        expectReleased(6);
     }
 
     /** All that nobody can reach is collected at once, but its guards hear of it one after another. */
