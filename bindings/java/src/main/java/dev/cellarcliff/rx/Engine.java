@@ -76,8 +76,13 @@ final class Engine {
         this.history = history;
         desk = Native.open(events);
         if (desk == 0) { throw new OutOfMemoryError("cellarcliff: no memory for an engine"); }
-        memory = Native.memory(desk);
-        new Desk(this, desk);
+        try {
+            memory = Native.memory(desk);
+            new Desk(this, desk);
+        } catch (Throwable why) {
+            Native.drop(desk);
+            throw why;
+        }
         Errors.prepare();
         Guard.prepare();
     }
