@@ -10,7 +10,8 @@ final class Bounded extends Merging {
     private final int most;
     /** How many items its source is asked for at first, a Flowable; 0 of any other. */
     private final int asks;
-    private volatile Subscription source;
+    private volatile Leaf source;
+    private volatile Subscription asked;
     /** A concatMap maps an item when its turn has come, a flatMap as it comes. */
     private final boolean isInTurn;
     /** By which the engine is asked to go on. */
@@ -42,13 +43,14 @@ final class Bounded extends Merging {
     boolean asks() { return asks > 0; }
 
     /** What its source is asked for at first; one item more for each that is done. */
-    long asksOf(Subscription source) {
+    long asksOf(Leaf source, Subscription asked) {
         this.source = source;
+        this.asked = asked;
         return asks;
     }
 
     private void askForMore() {
-        if (source != null) { source.request(1); }
+        if (asked != null && source.isOpen()) { asked.request(1); }
     }
 
     @Override void declined() { askForMore(); }

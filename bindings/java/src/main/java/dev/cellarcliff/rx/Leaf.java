@@ -54,7 +54,7 @@ final class Leaf extends Node implements Observer<Object>, FlowableSubscriber<Ob
     /** A Flowable is asked for everything, or for what the operator above has room for. */
     @Override public void onSubscribe(Subscription given) {
         onSubscribe(Disposable.fromSubscription(given));
-        if (isOpen()) { given.request(asker == null ? Long.MAX_VALUE : asker.asksOf(given)); }
+        if (isOpen()) { given.request(asker == null ? Long.MAX_VALUE : asker.asksOf(this, given)); }
     }
 
     @Override public void onNext(Object item) {

@@ -407,4 +407,15 @@ class OperatorsTest {
         }
         same(List.of("The sourceSupplier returned a null Publisher", "The mapper returned a null Publisher", "The mapper returned a null Publisher", "The mapper returned a null Publisher"), told);
     }
+
+    void a_bounded_flatMap_that_fails_asks_its_source_for_nothing_more() {
+        for (boolean isFailing : new boolean[] {true, false}) {
+            PublishProcessor<Integer> inner = PublishProcessor.create();
+            List<Object> told = new ArrayList<>();
+            Disposable given = Flowable.range(1, 9).doOnRequest(told::add).flatMap(v -> v == 1 ? inner : Flowable.never(), 2).subscribe(told::add, why -> told.add(why.getMessage()));
+            inner.onNext(5);
+            if (isFailing) { inner.onError(new Exception("inner")); } else { given.dispose(); }
+            same(isFailing ? List.of(2L, 5, "inner") : List.of(2L, 5), told);
+        }
+    }
 }
