@@ -335,11 +335,14 @@ public final class Programs {
                 if (isDisposed) { it.dispose(); }
             }
 
+            /** A filter above all is RxJava's own: where its function fails it disposes of what is below, and tells its error whatever a release there did. */
+            private boolean isTheirFiltersOwn(String what) { return program.roots.get(root).kind == Kind.FILTER && what.equals("error filter"); }
+
             private void told(String what, boolean isEnd) {
                 if (program.roots.get(root).isEngines()) {
                     if (in.get() > 0) { wrong.add(number + " told " + what + " within an item"); }
                     if (isOver) { wrong.add(number + " told " + what + " behind its end"); }
-                    if (isDisposed && program.manner != Manner.FOUR) { wrong.add(number + " told " + what + " behind its disposal"); }
+                    if (isDisposed && program.manner != Manner.FOUR && !isTheirFiltersOwn(what)) { wrong.add(number + " told " + what + " behind its disposal"); }
                 }
                 if (isDisposed) { return; }
                 say(number + " " + what);
