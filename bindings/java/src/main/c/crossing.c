@@ -7,6 +7,8 @@
 
 #include "cellarcliff.h"
 
+extern int malloc_trim(size_t) __attribute__((weak));
+
 enum { WORDS = 64, NO_STACK = 255, BOTH = 1 << 12 };
 
 /* What stands above a depth: the last item is told, and its call is to be ended; others are let into the lane of what the call further out does;
@@ -89,6 +91,7 @@ static void JNICALL drop_(STATIC, jlong desk) {
   UNUSED;
   cellar_drop(&((struct desk *)desk)->engine);
   free((struct desk *)desk);
+  if (malloc_trim) malloc_trim(0); /* pipelines that nobody could reach have been freed, and glibc keeps what they took */
 }
 
 static jobject JNICALL buffer_(STATIC, jlong desk) {

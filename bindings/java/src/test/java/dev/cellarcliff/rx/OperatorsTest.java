@@ -418,4 +418,20 @@ class OperatorsTest {
             same(isFailing ? List.of(2L, 5, "inner") : List.of(2L, 5), told);
         }
     }
+
+    void a_concatMap_asks_a_flowable_for_more_as_it_maps() {
+        for (boolean isTheirs : new boolean[] {true, false}) {
+            List<Object> told = new ArrayList<>();
+            if (isTheirs) { Hooks.uninstall(); }
+            List<PublishProcessor<Integer>> inner = List.of(PublishProcessor.create(), PublishProcessor.create(), PublishProcessor.create(), PublishProcessor.create());
+            Disposable given = Flowable.range(0, 99).doOnRequest(told::add).concatMap(inner::get).subscribe(told::add);
+            for (int i = 0; i < 3; i++) {
+                inner.get(i).onNext(10 + i);
+                inner.get(i).onComplete();
+            }
+            given.dispose();
+            Hooks.install();
+            same(List.of(2L, 10, 2L, 11, 12, 2L), told);
+        }
+    }
 }
