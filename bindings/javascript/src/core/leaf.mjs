@@ -132,10 +132,10 @@ export class Leaf extends Subscriber {
     for (let i = 0; i < list.length && !this.isStopped; i++) if (this._lone !== IN_ENGINE) loneNextOfMany(this, list[i]); else this.next(list[i]);
   }
 
-  /** Its source tells it nothing more. */
+  /** Its source tells it nothing more, and what it holds is released. */
   hushes() {
-    this.isStopped = true;
     if (this._subject !== null) this._subject._left(this);
+    stops(this);
   }
 
   isForgettable() { return true; }

@@ -187,9 +187,10 @@ export class Subscriber extends Subscription {
     let status = -1;
     try { status = holdsLone(tag); } finally { if (status !== 0) this._tag = null; }
   }
-  /** Before the root is opened. */
+  /** Before the root is opened; what is held within that is released first. */
   _holdsFirst(it) {
-    (this._finalizers ??= []).push(it);
+    (this._finalizers ??= []).unshift(it);
+    if (this._tag !== null) return realm.engine.changes(this._tag);
     try { this._holdsLone(); } catch (error) {
       this.remove(it);
       it.unsubscribe();

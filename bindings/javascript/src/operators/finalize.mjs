@@ -19,12 +19,7 @@ export const finalize = (callback) => operator((at, source) => {
 
 // By a root that is a leaf alone: its subscriber holds it.
 function finalizesLone(at, source, callback) {
-  const hears = at._hears;
+  at._hears._holdsFirst(new Held(callback));
   openAt(source, at);
   standsFor(at, 2);
-  if (hears.closed) return new Resource(callback).release();
-  try { hears.add(new Held(callback)); } catch (error) {
-    realm.engine.surely(() => hears.unsubscribe());
-    throw error;
-  }
 }

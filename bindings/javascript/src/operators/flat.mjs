@@ -4,7 +4,7 @@ import { realm } from '../engine/realm.mjs';
 import { TERMINAL } from '../core/leaf.mjs';
 import { MERGED, Place, failAt, linked, openAt, openNode, openPass, settled } from '../core/place.mjs';
 import { operator } from '../core/operator.mjs';
-import { isBare } from '../core/subject.mjs';
+import { isLeaf } from '../core/subject.mjs';
 import { identity, isFunction } from '../core/util.mjs';
 import { innerFrom } from '../sources/from.mjs';
 import { map } from './items.mjs';
@@ -33,17 +33,17 @@ class Projects {
 }
 
 /** The latest alone. The one before is released before the function is called: by a node that takes its place, in which the next one is opened. Where
- *  that has nothing to release its source leaves it, and it is closed as the next one is opened. */
+ *  that is one leaf its source tells it nothing more, what it holds is released, and it is closed as the next one is opened. */
 class Switches extends Projects {
-  holds = false;
-  latest = null; // the leaf of one that holds nothing
+  is_leaf = true; // whether the latest is a leaf alone, if there is one
+  latest = null; // the leaf then
   innerOf(inner) { return inner; }
   start(thing, value) {
     let at = this.place, inner;
-    if (!this.holds && this.latest !== null) this.latest.hushes();
+    if (this.is_leaf && this.latest !== null) this.latest.hushes();
     this.latest = null;
     try {
-      if (this.holds) at = openPass(at);
+      if (!this.is_leaf) at = openPass(at);
       if (at === null) return;
       at._above.switches = this;
       inner = innerFrom(this.call(value, this.index++));
@@ -51,7 +51,7 @@ class Switches extends Projects {
       if (at === this.place) realm.engine.fail(thing, error); else failAt(at, error);
       return;
     }
-    this.holds = !isBare(inner);
+    this.is_leaf = isLeaf(inner);
     realm.engine.letGo();
     openAt(inner, at);
   }

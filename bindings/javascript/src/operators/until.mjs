@@ -7,12 +7,9 @@ import { isLone } from '../core/lone.mjs';
 import { Observable } from '../core/observable.mjs';
 import { LEFT, Place, isForLone, openAt, openLeaf, openNode, settled, standsFor, unopenedAt } from '../core/place.mjs';
 import { operate, operator } from '../core/operator.mjs';
-import { Subject, isAlone, isBare } from '../core/subject.mjs';
+import { isAlone, isBare, isLeaf } from '../core/subject.mjs';
 import { noop } from '../core/util.mjs';
 import { innerFrom } from '../sources/from.mjs';
-
-/** Whether it opens a leaf and nothing else. */
-const isLeaf = (it) => !it.operator && !it.source && (it._open === Observable.prototype._open || it._open === Subject.prototype._open);
 
 /** An item of a notifier is the end; within what is merged what that releases is released before it is counted. The end of a notifier says nothing: it
  *  only leaves. */
@@ -34,7 +31,7 @@ class Notifies extends Stage {
 
 // What a notifier holds besides its leaf is a tree of its own, which is left at its end.
 function notifies(other, place) {
-  if (isLeaf(other)) return openAt(other, place);
+  if (!other.operator && isLeaf(other)) return openAt(other, place);
   const leaf = openLeaf(place);
   if (leaf === null) return;
   const link = new Link(leaf, undefined, () => link.unsubscribe());
