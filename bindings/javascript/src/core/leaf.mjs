@@ -1,4 +1,5 @@
 // A leaf of the engine: what a source tells goes in here, through the functions on items that stand before the book.
+import { LEAF } from '../engine/codes.mjs';
 import { realm } from '../engine/realm.mjs';
 import { IN_ENGINE, isLone, loneEnd, loneError, loneNext, loneNextOfMany } from './lone.mjs';
 import { COMPLETION, Subscriber, collecting, errorOf } from './subscriber.mjs';
@@ -80,20 +81,15 @@ export class Leaf extends Subscriber {
     this.engine = null;
     this.above = null;
     this.loose = null;
-    this.at = -1;
-    this.kind = 0;
     this.to = null; // as of a Thing
-    this.is_told = false;
     this.leaves = leaves;
     this._inner = inner;
     this.hears = hears; // where this leaf is the whole tree, else null
     this._subject = this._before = this._after = null; // whose list it is on, and between which
     this._many = false; // whether its source tells items in one go
-    this._lone = IN_ENGINE; // or how it stands with a root that needs no engine, its place among those, what waits there, and how many came each of the one before
+    this._lone = IN_ENGINE; // or how it stands with a root that needs no engine, its place among those, and what waits there
     this._at = 0;
-    this._stands = 1; // for how many nodes of an engine it stands
     this._later = null;
-    this._level = 0;
     if (inner !== null) for (let it = inner; it.above !== null; it = it.above) it.leaf = this;
   }
 
@@ -162,4 +158,5 @@ export class Leaf extends Subscriber {
     if (errors !== null) throw new UnsubscriptionError(errors);
   }
 }
-Leaf.prototype.is_shared = false;
+// What few leaves have otherwise: as of a Thing; for how many nodes of an engine it stands; how many items came each of the one before.
+Object.assign(Leaf.prototype, { kind: LEAF, at: -1, is_shared: false, is_told: false, _stands: 1, _level: 0 });

@@ -190,6 +190,8 @@ export function isBare(it) {
   while (it.operator?.is_stage && it.source) it = it.source;
   return isSubject(it);
 }
+/** Whether nothing is told as it is subscribed to. */
+export const isSilent = (it) => isSubject(it) && !it.isStopped && !it.closed;
 /** Whether it opens a leaf, and nothing else. */
 export function isLeaf(it) {
   while (it.operator?.is_stage && it.source) it = it.source;

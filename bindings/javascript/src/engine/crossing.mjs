@@ -165,7 +165,7 @@ export class Crossing {
     const a = this.#a;
     thing.engine = this;
     thing.owed = owed;
-    thing.kind = kind;
+    if (kind !== thing.kind) thing.kind = kind;
     thing.to = place === ROOT ? thing : place === NOTIFIER || (place !== INNER && (above.kind === FLAT || above.kind === SWITCH)) ? null : above.to;
     thing.slot = a[0], thing.top = a[1], thing.lo = a[2], thing.hi = a[3];
     if (tag !== null) {

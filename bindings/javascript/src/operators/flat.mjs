@@ -4,7 +4,7 @@ import { realm } from '../engine/realm.mjs';
 import { TERMINAL } from '../core/leaf.mjs';
 import { MERGED, Place, failAt, linked, openAt, openNode, openPass, settled } from '../core/place.mjs';
 import { operator } from '../core/operator.mjs';
-import { isLeaf } from '../core/subject.mjs';
+import { isLeaf, isSilent } from '../core/subject.mjs';
 import { identity, isFunction } from '../core/util.mjs';
 import { innerFrom } from '../sources/from.mjs';
 import { map } from './items.mjs';
@@ -25,7 +25,7 @@ class Projects {
   start(thing, value) {
     let inner;
     try { inner = innerFrom(this.call(value, this.index++)); } catch (error) { return realm.engine.fail(thing, error); }
-    realm.engine.letGo();
+    if (!isSilent(inner)) realm.engine.letGo();
     openAt(inner, this.place);
   }
   project(thing, value) { this.start(thing, value); }
@@ -52,7 +52,7 @@ class Switches extends Projects {
       return;
     }
     this.is_leaf = isLeaf(inner);
-    realm.engine.letGo();
+    if (!isSilent(inner)) realm.engine.letGo();
     openAt(inner, at);
   }
 }
