@@ -6,7 +6,7 @@ import { enters, lones } from './lone.mjs';
 /** How many nodes and resources are open, and how many came and went. */
 export const counts = () => {
   const totals = realm.engine.totals();
-  if (realm.holder?.engine === realm.engine) totals.nodes--; // it is no subscription
+  totals.nodes -= realm.engine.relaying + (realm.holder?.engine === realm.engine ? 1 : 0); // the package's own, beside what was asked for
   for (const it of lones.all()) {
     totals.nodes += it._stands;
     if (it.hears._tag !== null || it.hears._finalizers === null || it._stands > 1) continue;
