@@ -23,12 +23,12 @@ export function thrown(errors) {
 }
 
 /** Does it; answers what finalizers threw meanwhile, null if nothing. */
-export function collecting(act) {
+export function collecting(act, of) {
   const outer = collected, was = is_collected;
   let mine;
   collected = null;
   is_collected = true;
-  try { act(); } finally {
+  try { act(of); } finally {
     mine = collected;
     collected = outer;
     is_collected = was;
@@ -49,7 +49,10 @@ export class Resource extends Tag {
 /** What a subscriber holds for an operator. */
 export class Held {
   constructor(resource) { this.resource = resource; }
-  unsubscribe() { new Resource(this.resource).release(); }
+  unsubscribe() {
+    const { resource } = this, errors = resource ? finalizeOne(resource, null) : null;
+    if (errors !== null) thrown(errors);
+  }
 }
 /** A subscriber's finalizers, as one resource of its node. */
 class Finalizers extends Tag {
@@ -73,6 +76,7 @@ class Finalizers extends Tag {
 /** Whether it holds nothing itself: what a subscriber holds is held by the tree that it hears. */
 const holdsNothing = (it) => it instanceof Own || (it instanceof Subscriber && it.initialTeardown === undefined);
 
+const letsGo = (it) => it._letsGo();
 const isLoneOrNone = (it) => it === null || isLone(it);
 const needsNone = (it) => !it || (it._needsNone !== undefined && it._needsNone());
 
@@ -250,7 +254,7 @@ export class Subscriber extends Subscription {
     let errors = goes_on ? collecting(() => engine.goOn()) : null;
     // left while it hears its end: what stands behind that is released now
     if (hearing > 0) errors = collecting(() => engine.releases(hearing));
-    if (this._tag !== null && this._tag.is_lone) if (hearing === OVER) this._letsGo(); else errors = collecting(() => this._letsGo());
+    if (this._tag !== null && this._tag.is_lone) if (hearing === OVER) this._letsGo(); else errors = collecting(letsGo, this);
     if (this._tag === null) errors = this._finalized(errors);
     if (errors === null) return;
     if (is_collected) thrown(errors);

@@ -51,7 +51,7 @@ export class Subscription {
     if (this._parents === null && this.initialTeardown === undefined) { // as a subscription of a program has it
       const finalizers = this._finalizers;
       if (finalizers === null) return errors;
-      if (finalizers.length === 1 && typeof finalizers[0] === 'function') {
+      if (finalizers.length === 1 && !(finalizers[0] instanceof Subscription)) {
         this._finalizers = null;
         return finalizeOne(finalizers[0], errors);
       }
