@@ -15,9 +15,6 @@ const counted = (call, name) => (...of) => {
   return is;
 };
 
-/** In which order `close` leaves what is open, is not said. */
-const inAnyOrder = (lines) => [...lines.filter((it) => !it.startsWith('100 ')), ...lines.filter((it) => it.startsWith('100 ')).sort()];
-
 /** The program of a seed; in three of four it is shared, or has a resource, or both, and in half three observers hear it. */
 function program(seed) {
   const it = drawn(seed, is_busy || is_of_lists), d = drawing(seed ^ 0x5a5a5a), kind = d.below(4), { operators } = it.whole;
@@ -43,7 +40,7 @@ function all(seed, leaves_out) {
   rx.close();
   if (run.lines.some((line) => line.startsWith('100 begins subscribe'))) rx.close(); // what a release subscribes to, as all is closed, is open
   const after = rx.counts();
-  return [...inAnyOrder(run.lines), `twice ${run.twice}`, `kept ${run.kept()}`, ...['nodes', 'held', 'effects'].map((name) => `${name} ${open[name] - before[name]} ${after[name] - before[name]}`)];
+  return [...run.lines, `twice ${run.twice}`, `kept ${run.kept()}`, ...['nodes', 'held', 'effects'].map((name) => `${name} ${open[name] - before[name]} ${after[name] - before[name]}`)];
 }
 
 let wrong = 0;

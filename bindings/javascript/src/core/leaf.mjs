@@ -158,5 +158,5 @@ export class Leaf extends Subscriber {
     if (errors !== null) throw new UnsubscriptionError(errors);
   }
 }
-// What few leaves have otherwise: as of a Thing; for how many nodes of an engine it stands; how many items came each of the one before.
-Object.assign(Leaf.prototype, { kind: LEAF, at: -1, is_shared: false, is_told: false, _stands: 1, _level: 0 });
+// What few leaves have otherwise: as of a Thing, and how many items came each of the one before.
+Object.assign(Leaf.prototype, { kind: LEAF, at: -1, is_shared: false, is_told: false, _level: 0 });

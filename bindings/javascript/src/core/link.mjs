@@ -1,5 +1,5 @@
 import { failing } from './leaf.mjs';
-import { OVER, Subscriber } from './subscriber.mjs';
+import { Subscriber } from './subscriber.mjs';
 import { finalizeOne } from './subscription.mjs';
 
 /** Hears one observable for an operator, and is left with what it tells (`destination`). What its functions throw is an error there. */
@@ -17,7 +17,7 @@ export class Link extends Subscriber {
 
   // What it does once it has left comes behind all that it held.
   _over() {
-    if (this._onFinalize === undefined || this._hearing === 0) this._hearing = OVER;
+    if (this._onFinalize === undefined) this._hearing = 0;
     this.unsubscribe();
   }
   _finalized(errors) {

@@ -1,11 +1,9 @@
 // A root that is a leaf alone and holds nothing: nothing above can close it, nothing is released with it, and of its items nothing comes but that they
-// are heard. So it is told without the engine: by a flag, while its observer is told, and a list for what comes from within. What its subscriber holds is
-// held by one node of the engine, for all of them, which releases it as soon as the root has gone: that itself holds nothing. It is opened in the engine
-// once somebody asks where subscriptions are made: then all that it does is in the history.
-import { LEAF, PASS, ROOT, WISHES } from '../engine/codes.mjs';
+// are heard. So it is told without the engine: by a flag, while its observer is told, and a list for what comes from within. It is opened in the engine
+// as soon as it holds something, or somebody asks where subscriptions are made: then all that it does is in the history.
+import { LEAF, ROOT, WISHES } from '../engine/codes.mjs';
 import { MOST, NOWHERE } from '../engine/crossing.mjs';
 import { realm } from '../engine/realm.mjs';
-import { Thing } from '../engine/thing.mjs';
 import { LATELY } from '../engine/things.mjs';
 
 export const IN_ENGINE = 0, IDLE = 1, BUSY = 2, ENTERS = 3; // the last: busy, and goes into the engine behind that
@@ -25,11 +23,7 @@ class Lones {
     }
   }
   left(leaf) { if (this.#lately[leaf._at] === leaf) this.#lately[leaf._at] = null; }
-  /** In the order in which they were opened. */
-  all() {
-    const next = this.#now + 1;
-    return [...this.#loose.map((it) => it.deref()), ...this.#lately.slice(next), ...this.#lately.slice(0, next)].filter(isOpenLone);
-  }
+  all() { return [...this.#loose.map((it) => it.deref()), ...this.#lately].filter(isOpenLone); }
   /** Leaves all of them. */
   shut() {
     for (const it of this.all()) {
@@ -42,30 +36,8 @@ const isOpenLone = (it) => !!it && it._lone !== IN_ENGINE && !it.closed;
 /** One list for a realm, as there is one engine. */
 export const lones = realm.lones ??= new Lones();
 
-/** The node that holds what the subscribers of such roots hold. */
-class Holder {
-  hear() {}
-  heardEnd() {}
-  heardError() { realm.holder = null; }
-  heardGone() { realm.holder = null; }
-}
-function holder() {
-  const { engine } = realm;
-  if (realm.holder?.engine !== engine) {
-    const thing = new Thing(new Holder(), null);
-    if (engine.open(ROOT, PASS, 0, NOWHERE, thing) !== 0) return null;
-    realm.holder = thing;
-  }
-  return realm.holder;
-}
-/** Holds it, behind `begins`: its status. */
-export function holdsLone(tag) {
-  const it = holder();
-  return it === null ? -1 : realm.engine.hold(it, tag);
-}
-
 /** Whether a root there may be alone: with room for a command that opens it later. */
-export const mayBeLone = (hears) => !hears.closed && (hears._tag === null ? hears._holdsNone() : hears._tag.is_lone) && realm.engine.isRoomy();
+export const mayBeLone = (hears) => !hears.closed && hears._holdsNone() && realm.engine.isRoomy();
 export function opensLone(leaf) {
   leaf._lone = IDLE;
   lones.take(leaf);
@@ -89,7 +61,6 @@ export function enters(leaf) {
   let is_open = false;
   try { is_open = engine.open(ROOT, LEAF, WISHES, NOWHERE, leaf) === 0; } finally { if (!is_open) leaf._lone = IDLE; }
   lones.left(leaf);
-  if (is_open) leaf.hears._holdsAnew();
   return is_open;
 }
 
@@ -102,10 +73,7 @@ function waitsLone(leaf, tell, value) {
 const anItem = (hears, value) => hears.hear(value), anError = (hears, error) => hears.heardError(error, 0), anEnd = (hears) => hears.heardEnd(0);
 
 function tellsLone(leaf, tell, value) {
-  if (leaf._lone !== IDLE) {
-    waitsLone(leaf, tell, value);
-    return leaf.hears._letsGo(); // at once, as its observer is told something
-  }
+  if (leaf._lone !== IDLE) return waitsLone(leaf, tell, value);
   leaf._lone = BUSY;
   try { tell(leaf.hears, value); } catch (error) { realm.engine.report(error); }
   if (leaf._later === null && leaf._lone === BUSY) leaf._lone = IDLE;
@@ -123,7 +91,7 @@ function tellsWaiting(leaf) {
   leaf._level = 0;
   const wants = leaf._lone === ENTERS && !leaf.closed;
   leaf._lone = IDLE;
-  if (wants) try { enters(leaf); } catch { /* for want of room */ }
+  if (wants) try { hears._hold(); } catch { /* for want of room: it is asked again */ }
 }
 
 /** An item. Of those that its source tells in one go the first has looked at the stack. */
@@ -149,7 +117,6 @@ export function loneEnd(leaf) {
 function leavesLone(leaf) {
   leaf.shut();
   lones.left(leaf);
-  if (leaf.leaves !== null) leaf.leaves(leaf);
 }
 /** Left: what waits is not told. */
 export function loneLeft(leaf) {

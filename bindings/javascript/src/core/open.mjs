@@ -6,10 +6,10 @@ import { enters, lones } from './lone.mjs';
 /** How many nodes and resources are open, and how many came and went. */
 export const counts = () => {
   const totals = realm.engine.totals();
-  totals.nodes -= realm.engine.relaying + (realm.holder?.engine === realm.engine ? 1 : 0); // the package's own, beside what was asked for
+  totals.nodes -= realm.engine.relaying; // beside what was asked for
   for (const it of lones.all()) {
-    totals.nodes += it._stands;
-    if (it.hears._tag !== null || it.hears._finalizers === null || it._stands > 1) continue;
+    totals.nodes++;
+    if (it.hears._finalizers === null) continue;
     totals.held++; // what it leaves with it
     totals.accepted++;
   }
@@ -20,11 +20,11 @@ export const dump = () => realm.engine.dump();
 /** Asks for the place in the program where each subscription is made. */
 export const trace = (is_on = true) => {
   realm.engine.tracing = is_on;
-  if (is_on) lones.all().forEach(enters);
+  if (is_on) for (const it of lones.all()) if (it.hears._finalizers === null) enters(it); else it.hears._hold();
 };
 /** What is open: a program's subscriptions, and the package's own nodes; of each subscription the place where it was made, and the whole stack, if
  *  that was asked for. */
-export const leaks = () => [...realm.engine.things().filter((it) => it.owed > 0 && 'hears' in it && it !== realm.holder), ...lones.all()].map((it) => ({
+export const leaks = () => [...realm.engine.things().filter((it) => it.owed > 0 && 'hears' in it), ...lones.all()].map((it) => ({
   kind: it.hears && !it.hears._isInner ? 'subscription' : 'node', at: it.where ? shown(placeOf(it.where)) : null, stack: it.where?.stack ?? null,
 }));
 const shown = (place) => place && `${place.function ? `${place.function} ` : ''}${place.file}:${place.line}:${place.column}`;

@@ -7,9 +7,8 @@ import { isFunction } from './util.mjs';
 
 /** An operator by what it opens at a place. */
 export class Operator {
-  constructor(opens, is_share = false, is_stage = false, isAlone = undefined) {
+  constructor(opens, is_share = false, is_stage = false) {
     this.opens = opens;
-    this.isAlone = isAlone; // whether it opens no node of its own, where what it is over is told without the engine
     this.is_share = is_share;
     this.is_stage = is_stage;
   }
@@ -23,8 +22,8 @@ export class Operator {
   }
 }
 
-export const operator = (opens, is_share, is_stage, isAlone) => {
-  const made = new Operator(opens, is_share, is_stage, isAlone);
+export const operator = (opens, is_share, is_stage) => {
+  const made = new Operator(opens, is_share, is_stage);
   return (source) => {
     if (isOurs(source)) return source.lift(made);
     if (!source || !isFunction(source.lift)) throw new TypeError('Unable to lift unknown Observable type');

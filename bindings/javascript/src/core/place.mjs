@@ -6,7 +6,7 @@ import { Thing } from '../engine/thing.mjs';
 import { traced } from '../engine/tracing.mjs';
 import { Inner, Leaf, TERMINAL, failing } from './leaf.mjs';
 import { Link } from './link.mjs';
-import { IN_ENGINE, isLone, mayBeLone, opensLone } from './lone.mjs';
+import { IN_ENGINE, mayBeLone, opensLone } from './lone.mjs';
 import { Subscriber } from './subscriber.mjs';
 
 /** A place in a tree: below which node, who hears (of a root), and the functions that items go through. */
@@ -88,15 +88,6 @@ export function openLeaf(at) {
   if (how === OPENED && at._above.switches && (at._place === INNER || at._above.kind === PASS)) at._above.switches.latest = leaf;
   return leaf;
 }
-/** Whether what opens a leaf there, and nothing else, is told without the engine. */
-export const isForLone = (at) => at._place === ROOT && mayBeLone(at._hears);
-/** Of the root just opened there, if it is such a leaf: for how many nodes it stands. */
-export function standsFor(at, nodes) {
-  const leaf = at._hears._thing;
-  if (isLone(leaf)) leaf._stands += nodes - 1;
-  return leaf;
-}
-
 /** Of a leaf that is closed: whether it stands for what is LEFT, and was never opened. */
 export const isLeft = (leaf) => leaf.slot === -1 && leaf._lone === IN_ENGINE;
 

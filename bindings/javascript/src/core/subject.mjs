@@ -184,7 +184,6 @@ export class Subject extends Observable {
 }
 
 const isSubject = (it) => !it.operator && !it.source && it._open === Subject.prototype._open && it._subscribe === Subject.prototype._subscribe;
-const isBehavior = (it) => !it.operator && it instanceof BehaviorSubject && it._open === Subject.prototype._open && it._subscribe === BehaviorSubject.prototype._subscribe;
 /** Whether it is a subject, through functions on items alone: who hears that holds nothing. */
 export function isBare(it) {
   while (it.operator?.is_stage && it.source) it = it.source;
@@ -197,12 +196,6 @@ export function isLeaf(it) {
   while (it.operator?.is_stage && it.source) it = it.source;
   return !it.operator && !it.source && (it._open === Observable.prototype._open || it._open === Subject.prototype._open);
 }
-/** Whether it opens a leaf of a subject that has more to tell, and nothing else, where that is told without the engine. */
-export function isAlone(it) {
-  for (; it.source && it.operator; it = it.source) if (!it.operator.is_stage && !it.operator.isAlone?.()) return false;
-  return (isSubject(it) || isBehavior(it)) && !it.isStopped && !it.closed;
-}
-
 /** A subject that tells one observer and is told by an observable. */
 export class AnonymousSubject extends Subject {
   constructor(destination, source) {

@@ -4,7 +4,7 @@ import { Tag } from '../engine/thing.mjs';
 import { traced } from '../engine/tracing.mjs';
 import { reportUnhandledError, stopped, unheard } from './config.mjs';
 import { UnsubscriptionError } from './errors.mjs';
-import { holdsLone, isLone, loneLeft } from './lone.mjs';
+import { enters, isLone, loneLeft } from './lone.mjs';
 import { Own, Subscription, finalizeOne, isSubscription } from './subscription.mjs';
 import { isFunction, noop } from './util.mjs';
 
@@ -12,7 +12,6 @@ const SILENT = { closed: true, next: noop, error(error) { throw error; }, comple
 const nextOf = (value) => ({ kind: 'N', value, error: undefined });
 export const errorOf = (error) => ({ kind: 'E', value: undefined, error });
 export const COMPLETION = { kind: 'C', value: undefined, error: undefined };
-export const OVER = -1;
 let is_collected = false, collected = null; // what finalizers throw while somebody unsubscribes
 
 /** What finalizers threw goes to who unsubscribes, or else is reported: each of them. */
@@ -23,12 +22,12 @@ export function thrown(errors) {
 }
 
 /** Does it; answers what finalizers threw meanwhile, null if nothing. */
-export function collecting(act, of) {
+export function collecting(act) {
   const outer = collected, was = is_collected;
   let mine;
   collected = null;
   is_collected = true;
-  try { act(of); } finally {
+  try { act(); } finally {
     mine = collected;
     collected = outer;
     is_collected = was;
@@ -46,28 +45,17 @@ export class Resource extends Tag {
     if (errors !== null) thrown(errors);
   }
 }
-/** What a subscriber holds for an operator. */
-export class Held {
-  constructor(resource) { this.resource = resource; }
-  unsubscribe() {
-    const { resource } = this, errors = resource ? finalizeOne(resource, null) : null;
-    if (errors !== null) thrown(errors);
-  }
-}
 /** A subscriber's finalizers, as one resource of its node. */
 class Finalizers extends Tag {
-  constructor(of, is_lone = false) {
+  constructor(of) {
     super();
     this.of = of;
-    this.is_lone = is_lone; // whether that hears a root that is told without the engine
   }
   isForgettable() { return this.of._finalizers === null || this.of._finalizers.every(holdsNothing); }
   release() {
     const { of } = this;
-    if (of._tag !== this) return; // another one stands for it
     of._tag = null;
-    if (this.is_lone && this.above.engine.dead !== null) return of._heardDead(this.above.engine.dead);
-    if (!of.closed && !of.isStopped) return of._lets(); // it has not heard its end, which was told from within: others come with that
+    if (!of.closed && !of.isStopped) return; // it has not heard its end, which was told from within: they come with that
     const errors = of._finalized(null);
     if (errors !== null) thrown(errors);
   }
@@ -76,7 +64,6 @@ class Finalizers extends Tag {
 /** Whether it holds nothing itself: what a subscriber holds is held by the tree that it hears. */
 const holdsNothing = (it) => it instanceof Own || (it instanceof Subscriber && it.initialTeardown === undefined);
 
-const letsGo = (it) => it._letsGo();
 const isLoneOrNone = (it) => it === null || isLone(it);
 const needsNone = (it) => !it || (it._needsNone !== undefined && it._needsNone());
 
@@ -88,7 +75,7 @@ export class Subscriber extends Subscription {
     this._thing = null; // the root that it hears
     this._tag = null; // what its finalizers are held by
     this._used = false;
-    this._hearing = 0; // how deep the call is in which it hears its end, or that it has heard it
+    this._hearing = 0; // how deep the call is in which it hears its end
     this.destination = destination ?? SILENT;
     if (destination && isSubscription(destination)) destination.add(this);
   }
@@ -115,7 +102,7 @@ export class Subscriber extends Subscription {
   _complete() { try { this.destination.complete(); } finally { this._over(); } }
   /** Leaves behind its end: what it held is released once that has been told. */
   _over() {
-    this._hearing = OVER;
+    this._hearing = 0;
     this.unsubscribe();
   }
 
@@ -165,82 +152,19 @@ export class Subscriber extends Subscription {
     const parents = this._parents;
     if (parents === null) return;
     for (const it of Array.isArray(parents) ? parents : [parents]) {
-      if (!(it instanceof Subscriber) || it._tag !== null) continue;
+      if (!(it instanceof Subscriber)) continue;
       if (isLone(it._thing)) it._hold(); else if (it._thing === null) it._entersAbove();
     }
   }
 
   // Its finalizers are one resource of its node, released with that.
   _hold() {
-    const thing = this._thing;
-    if (isLone(thing)) return this._holdsLone();
-    const tag = traced(new Finalizers(this), 'teardown', thing);
-    if (realm.engine.hold(thing, tag) === 0) this._tag = tag; else this._ifClosed();
-  }
-  _ifClosed() {
-    if (!this.closed) return; // else that was as what had been put off was done
-    const errors = this._finalized(null);
-    if (errors !== null) thrown(errors);
-  }
-  // Of a root that is told without the engine, or will be.
-  _holdsLone() {
-    this._entersAbove();
-    realm.engine.begins();
-    if (this.closed) return this._ifClosed();
-    const tag = this._tag = new Finalizers(this, true);
-    let status = -1;
-    try { status = holdsLone(tag); } finally { if (status !== 0) this._tag = null; }
-  }
-  /** Before the root is opened; what is held within that is released first. */
-  _holdsFirst(it) {
-    (this._finalizers ??= []).unshift(it);
-    if (this._tag !== null) return realm.engine.changes(this._tag);
-    try { this._holdsLone(); } catch (error) {
-      this.remove(it);
-      it.unsubscribe();
-      throw error;
+    const thing = this._thing, tag = traced(new Finalizers(this), 'teardown', thing);
+    if (enters(thing) && realm.engine.hold(thing, tag) === 0) this._tag = tag;
+    else if (this.closed) { // as what had been put off was done
+      const errors = this._finalized(null);
+      if (errors !== null) thrown(errors);
     }
-  }
-  /** Releases what is not a teardown of its own. */
-  _lets() {
-    for (const it of [...this._finalizers ?? []]) {
-      if (!(it instanceof Held)) continue;
-      this.remove(it);
-      it.unsubscribe();
-    }
-  }
-  /** Another thing holds it from now on, and this one once that is called no more. */
-  _takesOff(it) {
-    const tag = this._tag;
-    this._tag = null;
-    this.remove(it);
-    if (this._finalizers?.length === 0) this._finalizers = null;
-    return () => { if (tag !== null) realm.engine.remove(tag); };
-  }
-  /** As a node of the engine's. */
-  _holdsAnew() {
-    const tag = this._tag;
-    if (this._finalizers === null) return;
-    this._tag = null;
-    this._hold();
-    if (tag !== null) realm.engine.remove(tag);
-  }
-  // Where the engine died that held it for a root that it did not have.
-  _heardDead(why) {
-    if (this.closed) return this._ifClosed();
-    if (isLone(this._thing)) loneLeft(this._thing);
-    this.heardError(why, 0);
-  }
-  // Releases what was held for such a root: later, where there is no room.
-  _letsGo() {
-    const tag = this._tag;
-    if (tag === null || !tag.is_lone) return;
-    const { engine } = tag.above;
-    try { if (engine.dead === null) engine.remove(tag); } catch (error) {
-      if (error instanceof RangeError) return engine.surely(() => engine.remove(tag));
-      if (engine.dead === null) throw error;
-    }
-    if (engine.dead !== null) this._tag = null;
   }
 
   _leave() {
@@ -253,8 +177,7 @@ export class Subscriber extends Subscription {
     if (isLone(thing)) loneLeft(thing);
     let errors = goes_on ? collecting(() => engine.goOn()) : null;
     // left while it hears its end: what stands behind that is released now
-    if (hearing > 0) errors = collecting(() => engine.releases(hearing));
-    if (this._tag !== null && this._tag.is_lone) if (hearing === OVER) this._letsGo(); else errors = collecting(letsGo, this);
+    if (hearing !== 0) errors = collecting(() => engine.releases(hearing));
     if (this._tag === null) errors = this._finalized(errors);
     if (errors === null) return;
     if (is_collected) thrown(errors);

@@ -7,7 +7,6 @@ export const realm = globalThis[KEY] ??= {
   engine: null,
   report: null, // where an error goes that nobody hears
   lones: null, // the roots that need no engine
-  holder: null, // the node that holds what their subscribers hold
   /** Makes the engine of its module and of the one between, unless another copy of the package has made it. */
   start(module, glue) {
     if (this.engine) return;

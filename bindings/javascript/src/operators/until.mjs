@@ -3,11 +3,10 @@ import { NOTIFIER, SOURCE, UNTIL } from '../engine/codes.mjs';
 import { Inner, Stage, TERMINAL, failing, stops } from '../core/leaf.mjs';
 import { realm } from '../engine/realm.mjs';
 import { Link } from '../core/link.mjs';
-import { isLone } from '../core/lone.mjs';
 import { Observable } from '../core/observable.mjs';
-import { LEFT, Place, isForLone, openAt, openLeaf, openNode, settled, standsFor, unopenedAt } from '../core/place.mjs';
+import { LEFT, Place, openAt, openLeaf, openNode, settled, unopenedAt } from '../core/place.mjs';
 import { operate, operator } from '../core/operator.mjs';
-import { isAlone, isBare, isLeaf } from '../core/subject.mjs';
+import { isLeaf } from '../core/subject.mjs';
 import { noop } from '../core/util.mjs';
 import { innerFrom } from '../sources/from.mjs';
 
@@ -38,35 +37,14 @@ function notifies(other, place) {
   try { other.subscribe(link); } catch (error) { failing(leaf, error); }
 }
 
-const isOfSubject = (it) => isBare(it) && isAlone(it);
-// By two roots that are leaves alone, of two subjects: an item of the notifier leaves its root and ends the other.
-function untilLone(at, source, other) {
-  const { _hears: hears, _way: way } = at, link = new Link(hears, () => {
-    const leaf = hears._thing;
-    link.unsubscribe();
-    if (isLone(leaf)) way.complete(leaf);
-  }, noop, (error) => { if (isLone(hears._thing)) way.error(error, hears._thing); });
-  other.subscribe(link);
-  openAt(source, at);
-  const leaf = standsFor(at, 2);
-  if (!isLone(leaf)) return;
-  const { leaves } = leaf;
-  leaf.leaves = () => {
-    if (leaves !== null) leaves();
-    realm.engine.surely(() => link.unsubscribe());
-  };
-}
-
 export function takeUntil(notifier) {
   return operator((at, source) => {
-    const other = innerFrom(notifier);
-    if (!at._way.hooked && isOfSubject(other) && isAlone(source) && isForLone(at)) return untilLone(at, source, other);
-    const place = settled(at), body = { over: false, shut() { this.over = true; } }, thing = place && openNode(place, UNTIL, body);
+    const other = innerFrom(notifier), place = settled(at), body = { over: false, shut() { this.over = true; } }, thing = place && openNode(place, UNTIL, body);
     if (!thing) return;
     const ends = place._inner && new Inner(null, place._inner), below = new Place(SOURCE, thing, null, place._way, null, ends);
     try { notifies(other, new Place(NOTIFIER, thing, null, new Notifies(TERMINAL, ends))); } catch (error) { return unopenedAt(below, error); }
     if (thing !== LEFT && !body.over) openAt(source, below);
-  }, false, false, () => notifier instanceof Observable && isOfSubject(notifier));
+  });
 }
 
 export const skipUntil = (notifier) => operate((source, to) => {

@@ -1,8 +1,7 @@
 // Sources that tell at once, or nothing, or what a function answers.
 import { Observable } from '../core/observable.mjs';
-import { Held, Resource } from '../core/subscriber.mjs';
-import { LEFT, failAt, holdAt, isForLone, openAt, openPass, roomToMake, standsFor } from '../core/place.mjs';
-import { isAlone } from '../core/subject.mjs';
+import { Resource } from '../core/subscriber.mjs';
+import { LEFT, failAt, holdAt, openAt, openPass, roomToMake } from '../core/place.mjs';
 import { traced } from '../engine/tracing.mjs';
 import { isFunction, isScheduler, noop, popScheduler } from '../core/util.mjs';
 import { fromArray, inOneGo, innerFrom } from './from.mjs';
@@ -43,48 +42,21 @@ export const defer = (factory) => opened((at) => {
 export const iif = (condition, trueResult, falseResult) => defer(() => (condition() ? trueResult : falseResult));
 
 /** A resource for each that subscribes, which is released once, whatever the function that makes the source does. */
-export const using = (resourceFactory, observableFactory) => {
-  let was_bare = false; // whether its last source was a subject: then the next one is likely to be
-  return opened((at) => {
-    if (was_bare && isForLone(at)) return void (was_bare = usesLone(at, resourceFactory, observableFactory));
-    // The node is open before the resource is made: so what an exchange releases is released before.
-    const below = openPass(at);
-    if (below === null) return;
-    const is_left = below._above === LEFT, tag = traced(new Resource(null), 'resource');
-    let resource, source = null;
-    try { resource = tag.finalizer = resourceFactory(); } catch (error) { return failAt(below, error); }
-    if (!is_left) holdAt(below, tag);
-    try { source = sourceOf(observableFactory, resource); } catch (error) { failAt(below, error); }
-    was_bare = source !== null && isAlone(source);
-    if (source !== null) openAt(source, below);
-    if (is_left) tag.release();
-  });
-};
-function sourceOf(factory, resource) {
-  const made = factory(resource);
-  return made ? innerFrom(made) : EMPTY;
-}
-
-// By a root that is a leaf alone, whose subscriber holds the resource: whether the source was a subject. If not, a node holds it.
-function usesLone(at, resourceFactory, observableFactory) {
-  const hears = at._hears;
-  let resource, source;
-  try { resource = resourceFactory(); } catch (error) { return failAt(at, error), true; }
-  const held = new Held(resource);
-  hears._holdsFirst(held);
-  try { source = sourceOf(observableFactory, resource); } catch (error) { return failAt(at, error), true; }
-  const is_bare = isAlone(source);
-  if (!is_bare && !hears.closed) at = heldBelow(at, held);
-  if (at !== null) openAt(source, at);
-  if (is_bare) standsFor(at, 2);
-  return is_bare;
-}
-function heldBelow(at, held) {
-  const tag = new Resource(held.resource), lets = at._hears._takesOff(held), below = openPass(at);
-  if (below === null) tag.release(); else holdAt(below, tag);
-  lets();
-  return below;
-}
+export const using = (resourceFactory, observableFactory) => opened((at) => {
+  // The node is open before the resource is made: so what an exchange releases is released before.
+  const below = openPass(at);
+  if (below === null) return;
+  const is_left = below._above === LEFT, tag = traced(new Resource(null), 'resource');
+  let resource, source = null;
+  try { resource = tag.finalizer = resourceFactory(); } catch (error) { return failAt(below, error); }
+  if (!is_left) holdAt(below, tag);
+  try {
+    const made = observableFactory(resource);
+    source = made ? innerFrom(made) : EMPTY;
+  } catch (error) { failAt(below, error); }
+  if (source !== null) openAt(source, below);
+  if (is_left) tag.release();
+});
 
 export function range(start, count, scheduler) {
   if (count === undefined) [start, count] = [0, start];
