@@ -343,9 +343,12 @@ export class Crossing {
     this.#things.leaves(node);
     const a = this.#a;
     if (a[HANDED_AT] === 0) return a[CLOSED_AT] !== 0;
-    if (a[CLOSED_AT] !== 0 || a[KIND_AT] !== 4 || !this.#is_begun || this.#postponed !== null) return true;
-    const thing = this.#things.get(a[USER_AT]);
-    return thing.lo !== node.lo || thing.hi !== node.hi || this.#isMoreThanGone(a[USER_AT], thing);
+    if (a[CLOSED_AT] > SHOWN || a[KIND_AT] !== 4 || !this.#is_begun || this.#postponed !== null) return true;
+    for (let i = 0; i < a[CLOSED_AT]; i++) if (this.#things.get(a[CLOSINGS_AT + 2 * i]).leaves !== null) return true;
+    const user = a[USER_AT], thing = this.#things.get(user);
+    if (thing.lo !== node.lo || thing.hi !== node.hi) return true;
+    if (a[CLOSED_AT] !== 0) this.#close(a[CLOSED_AT]);
+    return this.#isMoreThanGone(user, thing);
   }
   // Of a root that held nothing: it need not hear that it is gone. Whether there is anything else.
   #isMoreThanGone(user, thing) {
@@ -437,18 +440,17 @@ export class Crossing {
     this.#ofLevel--;
   }
 
+  // Nothing is called that gives commands, until each of them is closed.
   #close(count) {
-    if (count === 1) return this.#closeOne(this.#a[CLOSINGS_AT]);
-    const words = this.#closings(count), things = words.map((it) => this.#things.get(it));
-    for (const thing of things) thing.shut();
-    for (let i = 0; i < things.length; i++) this.#drop(words[i], things[i]);
-    for (const thing of things) if (thing.leaves !== null) thing.leaves(thing);
-  }
-  #closeOne(word) {
-    const thing = this.#things.get(word);
-    thing.shut();
-    this.#drop(word, thing);
-    if (thing.leaves !== null) thing.leaves(thing);
+    const words = count <= SHOWN ? null : this.#closings(count);
+    let behind = null;
+    for (let i = 0; i < count; i++) {
+      const word = words === null ? this.#a[CLOSINGS_AT + 2 * i] : words[i], thing = this.#things.get(word), { leaves } = thing;
+      thing.shut();
+      this.#drop(word, thing);
+      if (leaves !== null) (behind ??= []).push(leaves, thing);
+    }
+    if (behind !== null) for (let i = 0; i < behind.length; i += 2) behind[i](behind[i + 1]);
   }
   // The words of all that the command closed: the first stand in the answer. First of all that is read of it.
   #closings(count) {

@@ -1,7 +1,9 @@
 // Sources that tell at once, or nothing, or what a function answers.
 import { Observable } from '../core/observable.mjs';
 import { Resource } from '../core/subscriber.mjs';
-import { LEFT, failAt, holdAt, openAt, openPass, roomToMake } from '../core/place.mjs';
+import { ROOT } from '../engine/codes.mjs';
+import { realm } from '../engine/realm.mjs';
+import { LEFT, failAt, holdAt, openAt, openPass, openUsing, roomToMake } from '../core/place.mjs';
 import { traced } from '../engine/tracing.mjs';
 import { isFunction, isScheduler, noop, popScheduler } from '../core/util.mjs';
 import { fromArray, inOneGo, innerFrom } from './from.mjs';
@@ -43,20 +45,32 @@ export const iif = (condition, trueResult, falseResult) => defer(() => (conditio
 
 /** A resource for each that subscribes, which is released once, whatever the function that makes the source does. */
 export const using = (resourceFactory, observableFactory) => opened((at) => {
-  // The node is open before the resource is made: so what an exchange releases is released before.
-  const below = openPass(at);
+  const tag = traced(new Resource(null), 'resource'), below = (at._place === ROOT ? openedWith : openedBefore)(at, resourceFactory, tag);
   if (below === null) return;
-  const is_left = below._above === LEFT, tag = traced(new Resource(null), 'resource');
-  let resource, source = null;
-  try { resource = tag.finalizer = resourceFactory(); } catch (error) { return failAt(below, error); }
-  if (!is_left) holdAt(below, tag);
+  let source = null;
   try {
-    const made = observableFactory(resource);
+    const made = observableFactory(tag.finalizer);
     source = made ? innerFrom(made) : EMPTY;
   } catch (error) { failAt(below, error); }
   if (source !== null) openAt(source, below);
-  if (is_left) tag.release();
+  if (below._above === LEFT) tag.release();
 });
+// The node of a root is opened with the resource: the place below it, or null.
+function openedWith(at, resourceFactory, tag) {
+  roomToMake();
+  try { tag.finalizer = resourceFactory(); } catch (error) { return failAt(at, error), null; }
+  let below = null;
+  try { below = openUsing(at, tag); } finally { if (below === null) realm.engine.surely(() => tag.release()); }
+  return below;
+}
+// Elsewhere it is open before the resource is made: so what an exchange releases is released before.
+function openedBefore(at, resourceFactory, tag) {
+  const below = openPass(at);
+  if (below === null) return null;
+  try { tag.finalizer = resourceFactory(); } catch (error) { return failAt(below, error), null; }
+  if (below._above !== LEFT) holdAt(below, tag);
+  return below;
+}
 
 export function range(start, count, scheduler) {
   if (count === undefined) [start, count] = [0, start];
