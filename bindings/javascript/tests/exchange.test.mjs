@@ -112,6 +112,23 @@ export const tests = {
     source.next(1);
     other.next(3);
   }, [1, 'error', 3, 'item', 'end'], undefined, [1, 2, 'error', 3, 4, 'item', 'end']),
+  'onErrorResumeNext makes no other as it is left': test((rx, say) => {
+    const stop = new rx.Subject(), source = new rx.Subject(), held = rx.defer(() => {
+      say('made');
+      return rx.NEVER;
+    });
+    rx.merge(rx.onErrorResumeNext(rx.NEVER, held).pipe(rx.takeUntil(stop)), rx.NEVER).subscribe();
+    rx.onErrorResumeNext(source, held).pipe(rx.elementAt(0, 9), rx.concatWith(rx.NEVER)).subscribe(say);
+    stop.next();
+    source.next(1);
+  }, [1]),
+  'onErrorResumeNext goes on behind a release that throws': test(async (rx, say) => {
+    const fails = new rx.Observable(() => () => { throw new Error('no'); }).pipe(rx.sample(rx.throwError(() => 'over')));
+    rx.config.onUnhandledError = () => {};
+    rx.onErrorResumeNext(fails, rx.of('goes on')).subscribe({ next: say, error: () => say('error') });
+    await new Promise((resolve) => { setTimeout(resolve, 5); });
+    rx.config.onUnhandledError = null;
+  }, ['goes on']),
   'who tells a result as it has ended is told nothing more': test((rx, say) => {
     for (const result of [rx.max(), rx.toArray(), rx.reduce((a, b) => a || b), rx.takeLast(1), rx.last()]) {
       const source = new rx.Subject();

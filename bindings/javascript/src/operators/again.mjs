@@ -2,6 +2,7 @@
 import { Link } from '../core/link.mjs';
 import { operate } from '../core/operator.mjs';
 import { Subject } from '../core/subject.mjs';
+import { noop } from '../core/util.mjs';
 import { innerFrom } from '../sources/from.mjs';
 import { EMPTY } from '../sources/simple.mjs';
 import { timer } from '../sources/timer.mjs';
@@ -133,12 +134,11 @@ export function onErrorResumeNextWith(source, others) {
   const all = [source, ...others];
   return operate((_, to) => {
     const again = looping(() => {
-      if (to.closed) return;
+      if (to.closed || to.isStopped) return;
       if (all_left.length === 0) return to.complete();
       let next;
       try { next = innerFrom(all_left.shift()); } catch { return again(); }
-      const inner = new Link(to, undefined, () => inner.unsubscribe(), () => inner.unsubscribe(), () => again());
-      next.subscribe(inner);
+      next.subscribe(new Link(to, undefined, noop, noop, () => again()));
     });
     const all_left = [...all];
     again();
