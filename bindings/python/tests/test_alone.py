@@ -64,6 +64,10 @@ class Program:
             lambda: below.pipe(ops.flat_map(lambda _: other)), lambda: below.pipe(ops.flat_map_latest(lambda _: other)), lambda: rx.merge(below, other),
             lambda: below.pipe(ops.take_until(other)), lambda: below.pipe(ops.start_with(7)), lambda: below.pipe(ops.share()),
             lambda: rx.using(lambda: Disposable(lambda: self.note("released")), lambda _: below), lambda: rx.zip(below, other),
+            lambda: below.pipe(ops.window_with_count(2), ops.flat_map(ops.to_list())), lambda: below.pipe(ops.group_by(repr), ops.flat_map(ops.take(2))),
+            lambda: below.pipe(ops.buffer_with_count(2)), lambda: below.pipe(ops.window(other), ops.merge(max_concurrent=1)),
+            lambda: rx.combine_latest(below, other), lambda: below.pipe(ops.amb(other)), lambda: below.pipe(ops.concat_map(lambda _: other)),
+            lambda: below.pipe(ops.with_latest_from(other)), lambda: below.pipe(ops.retry(2)), lambda: below.pipe(ops.group_by(repr)),
             lambda: below.pipe(ops.finally_action(lambda: self.note("finally")))])()
 
     def created(self):
@@ -96,7 +100,7 @@ class Program:
     def function(self, call):
         """A function that does something now and then."""
         def work(*given):
-            self.note(("function", given))
+            self.note(("function", repr(given)))
             if not self.interrupts and self.random.random() < 0.1:
                 self.act()
             if not self.interrupts and self.random.random() < 0.02:
@@ -191,8 +195,10 @@ class Alone(unittest.TestCase):
     def setUp(self):
         self.unhandled = []
         rx.set_error_hook(self.unhandled.append)
+        self.hook, sys.unraisablehook = sys.unraisablehook, lambda it: None  # what is left may be told as something is collected
 
     def tearDown(self):
+        sys.unraisablehook = self.hook
         rx.set_error_hook(None)
         rx.use(None)
 

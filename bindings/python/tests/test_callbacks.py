@@ -312,6 +312,17 @@ class InSteps(Case):
 
 
 class Small(Case):
+    def test_a_part_that_functions_stand_behind_is_held_as_long_as_they_hear_it(self):
+        openings, told = Subject(), []
+
+        def fails(_):
+            raise ValueError
+        held = rx.using(lambda: Disposable(lambda: told.append("released")), lambda _: rx.never())
+        parts = held.pipe(ops.window_toggle(openings, fails), ops.flat_map(lambda it: it.pipe(ops.to_list())))
+        parts.subscribe(None, lambda error: told.append(type(error)))
+        openings.on_next(1)
+        self.assertEqual((told, self.engine.counts()[:2]), (["released", ValueError], (0, 0)))
+
     def test_a_release_that_is_interrupted_leaves_nothing_open(self):
         def interrupted():
             raise KeyboardInterrupt

@@ -101,7 +101,8 @@ class Engine:
         """Opens a source, which may hold something: its leaf, for who tells it something, and holds it."""
         root = at.root
         if self.leaves_alone and at.place == ROOT and at.above is None and not holds:
-            return self.core.leaf(root)
+            at.node = self.core.leaf(root)  # what holds something there takes it into the engine
+            return at.node
         leaf = self.core.leaf(None)
         leaf.above, at.holder = at.holder, leaf
         at.node = self.core.open(OPEN | at.place << 8 | LEAF << 16 | (at.flags | WISHES) << 24, at.above, (root, leaf, None), None, at.is_exchange)
