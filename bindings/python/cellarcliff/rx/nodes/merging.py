@@ -31,18 +31,17 @@ class Merging(Observable[Any]):
         # whether it is closed: an item may stand in its lane meanwhile, and is not projected then
         node_is = Leaf(engine.core)
 
-        def opens(value: Any, at: At) -> None:
-            observable = to_observable(mapper(value))
-            if not node_is.is_stopped:
-                C.projected(observable._open, at)
-
         def project(value: Any) -> None:
             if node_is.is_stopped:
                 return
             at = At(engine, INNER, node, None, scheduler, top, node_is)
             at.is_exchange = is_switch
             try:
-                opens(value, at)
+                observable = mapper(value)
+                if not isinstance(observable, Observable):
+                    observable = to_observable(observable)
+                if not node_is.is_stopped:
+                    C.projected(observable._open, at)
             except Refused as why:
                 if why.name not in ("Gone", "NothingOwed"):
                     engine.fail(node, why)

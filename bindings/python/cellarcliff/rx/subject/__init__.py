@@ -72,7 +72,10 @@ class Subject(_Base, Observable[S], Observer):
             raise DisposedException()
 
     def _open(self, at: At) -> None:
-        self._open_with(at, ())
+        if type(self)._subscribe_core is Subject._subscribe_core:
+            self._open_here(at, ())
+        else:
+            create(self._subscribe_core, at, ())
 
     def _open_with(self, at: At, makes: Any) -> bool:
         if type(self)._subscribe_core is Subject._subscribe_core:
@@ -85,7 +88,8 @@ class Subject(_Base, Observable[S], Observer):
         return _Itself(self).subscribe(observer, scheduler=scheduler)
 
     def _open_here(self, at: At, makes: Any) -> bool:
-        self.check_disposed()
+        if self.is_disposed:
+            self.check_disposed()
         leaf = at.engine.source(at)
         up = chained(makes, leaf) if makes else leaf
         if not leaf.is_stopped and not self._join(up, leaf):
