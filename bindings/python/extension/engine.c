@@ -64,6 +64,7 @@ typedef struct {
   char is_keyed, is_stopped, is_over, is_told; /* is_told: an item is told to it now */
 } Root;
 typedef struct Subject Subject;
+struct Waiting { struct Waiting *next; PyObject *value; uint64_t by; uint8_t what; };
 struct Leaf {
   PyObject_HEAD
   Core *core;
@@ -74,13 +75,12 @@ struct Leaf {
   int owed;
   PyObject *above;          /* the root or leaf that is held while this is open, or NULL */
   Leaf *below, *next, **at; /* not held: those that are open below it, and its place among those below the same, or alone */
-  struct Waiting *waits, **last; /* notes */
+  struct Waiting *waits, **last, own; /* notes, of which one needs no memory */
   char is_stopped, is_fed, way;  /* is_fed: who can tell it something holds it */
 };
 /* The way of what a leaf emits, where that is not straight into the engine: it is a root ALONE, it is BUSY as it is told something without the engine, and
  * something WAITS for the end of that. */
 enum { ALONE = 1, BUSY = 2, WAITS = 4 };
-struct Waiting { struct Waiting *next; PyObject *value; uint64_t by; uint8_t what; };
 typedef struct {
   PyObject_HEAD
   PyObject *down, *down_next, *steps; /* steps: functions, of each a kind: 0 map, 1 filter */
@@ -485,7 +485,6 @@ static int do_behind(struct Mine *here, int failed) {
 }
 
 /* Leaves, functions ------------------------------------------------------------------------------------------------------------*/
-
 /* An item or an end into its lane; its value is kept. What the engine refuses it by, or 0. */
 static uint8_t put_there(struct Mine *here, Leaf *leaf, uint8_t what, PyObject *value, struct cellar_stepped *s) {
   struct cellar_command c = {.what = what, .node = leaf->node, .value = what == CELLAR_COMPLETE ? 0 : (uintptr_t)value};
@@ -507,7 +506,7 @@ static int note_there(struct Mine *here, Leaf *leaf, uint8_t what, PyObject *val
  * an item nothing comes but that it is heard. So it is told by a mark, as long as it is told something, and a list of what comes meanwhile. It enters
  * the engine as soon as it holds something, or its subject has a subscriber that is there; what waits then goes there in its turn. */
 static int wait(struct Mine *here, Leaf *leaf, uint8_t what, PyObject *value) {
-  struct Waiting *it = PyMem_Malloc(sizeof *it);
+  struct Waiting *it = leaf->own.value ? PyMem_Malloc(sizeof *it) : &leaf->own;
   if (!it) return PyErr_NoMemory(), -1;
   *it = (struct Waiting){NULL, new_of(value), here->ident, what};
   leaf->last = &(*(leaf->waits ? leaf->last : &leaf->waits) = it)->next;
@@ -519,7 +518,8 @@ static struct Waiting first_of(Leaf *leaf) {
   struct Waiting *first = leaf->waits, it = *first;
   if (!(leaf->waits = it.next)) leaf->way &= ~WAITS;
   leaf->core->waiting--;
-  PyMem_Free(first);
+  if (first == &leaf->own) leaf->own.value = NULL;
+  else PyMem_Free(first);
   return it;
 }
 static void forget_waiting(Leaf *leaf) { while (leaf->waits) drop(first_of(leaf).value, 1); }
