@@ -20,7 +20,7 @@
 //! - **Telling.** What an emission comes to is told before it returns, in its own thread. What an observer emits from within stands behind
 //!   what it is being told. Another thread's emission into the same subscription is told by the thread that is telling.
 //! - **Releases.** Dropping a [`local::Subscription`] has released its resources when it returns, from within an observer too, unless
-//!   another thread is telling that observer, or it is being told its end, behind which they are released.
+//!   another thread is telling that observer, or it was closed before, by a call that is still under way.
 //! - **Functions.** Those on items ([`map`](local::Observable::map), [`scan`](local::Observable::scan)) are called by who emits, before the
 //!   engine has the item. Where an operator has to hear the end of its source ([`fold`](local::Observable::fold),
 //!   [`zip`](local::Observable::zip), [`retry`](local::Observable::retry)), the source has a root of its own in the same lane, and a

@@ -150,6 +150,42 @@ fn a_scope_that_is_shut_closes_it_and_drops_its_observer() {
     assert_eq!(subject.observers(), 0);
 }
 
+/// As it is dropped it holds a resource for a source, which finds that closed.
+struct Holds(local::Emitter<'static, i32>, Rc<Cell<u32>>);
+
+struct Finds(local::Emitter<'static, i32>, Rc<Cell<u32>>);
+
+impl Drop for Holds {
+    fn drop(&mut self) {
+        self.0.hold(Finds(self.0.clone(), self.1.clone()))
+    }
+}
+
+impl Drop for Finds {
+    fn drop(&mut self) {
+        assert!(self.0.is_closed());
+        self.1.set(self.1.get() + 1)
+    }
+}
+
+#[test]
+fn what_is_held_for_another_as_a_scope_is_shut_finds_its_source_closed() {
+    let (scope, many) = (local::Scope::new().unwrap(), Rc::new(Cell::new(0)));
+    let ((one, to_one), (other, to_other)) = (kept(), kept());
+    let [first, second] = [(); 2].map(|()| Rc::new(RefCell::new(None::<Holds>)));
+    let keeps = |it: &Rc<RefCell<Option<Holds>>>| {
+        let it = it.clone();
+        move |_| _ = it.borrow().is_some()
+    };
+    one.observe_in(&scope, keeps(&first)).unwrap().detach();
+    other.observe_in(&scope, keeps(&second)).unwrap().detach();
+    first.borrow_mut().replace(Holds(to_other.borrow_mut().take().unwrap(), many.clone()));
+    second.borrow_mut().replace(Holds(to_one.borrow_mut().take().unwrap(), many.clone()));
+    drop((first, second));
+    scope.shut();
+    assert_eq!((many.get(), scope.words()), (2, 0));
+}
+
 #[test]
 fn what_the_engine_cannot_open_as_it_holds_something_is_closed() {
     let refusing = (1..400).map_while(|room| local::Scope::with_room(room).ok());

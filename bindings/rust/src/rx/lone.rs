@@ -142,7 +142,7 @@ impl<'a, T, E, O: FnMut(Note<T, E>)> Heard<'a, T, E, O> {
     pub fn end_alone(&self, end: Note<T, E>) -> Result<(), Refusal> {
         let mut panics = Panics::default();
         if let Some(word) = self.root.leave_alone() {
-            panics.run(|| word.closes_alone());
+            panics.run(|| word.closed());
             panics.run(|| drop(word));
             panics.run(|| _ = self.tell_alone(end));
             panics.go_on();
@@ -187,7 +187,7 @@ impl<'a, T, E, O: FnMut(Note<T, E>)> Heard<'a, T, E, O> {
     fn tell_first(&self, observer: &mut Option<O>) -> First<'a, T, E, O> {
         let first = self.lone.list.with(|list| {
             if let Some(Waits::Hold(_)) = list.waits.front() {
-                if let Some(word) = self.root.leave_alone() {
+                if let Some(word) = self.root.take_alone(|_| ()) {
                     list.phase = Phase::Entering;
                     self.lone.many.fetch_or(ENTERED, SeqCst);
                     return Err(word);
@@ -213,6 +213,7 @@ impl<'a, T, E, O: FnMut(Note<T, E>)> Heard<'a, T, E, O> {
             Ok(made) => made.node,
             Err(why) => {
                 let word = Word { hears, merges: None, closes };
+                word.closing();
                 self.lone.list.with(|list| list.phase = Phase::Alone);
                 panics.run(|| word.leaves_alone());
                 panics.run(|| or_panic(Err(why)));
@@ -270,9 +271,11 @@ impl<'a> Lones<'a> {
         self.all.take(key.slot).map(|it| it.1)
     }
 
-    /// Leaves none; outside the lock each is closed.
-    pub fn take_all(&mut self) -> impl Iterator<Item = Word<'a>> {
-        std::mem::replace(&mut self.all, Slab::new()).into_iter().map(|it| it.1)
+    /// Leaves none. Outside the lock each is told that it is closed.
+    pub fn take_all(&mut self) -> Vec<Word<'a>> {
+        let all: Vec<_> = std::mem::replace(&mut self.all, Slab::new()).into_iter().map(|it| it.1).collect();
+        all.iter().for_each(Word::closing);
+        all
     }
 }
 
@@ -286,25 +289,38 @@ impl<'a> Root<'a> {
         self.alone.get() != NOTHING
     }
 
-    /// For the one who ends it, closes it, or opens it in the engine.
+    /// For the one who ends or closes it: what others ask of its leaf is answered so from now on.
     pub fn leave_alone(&self) -> Option<Word<'a>> {
+        self.take_alone(Word::closing)
+    }
+
+    /// Whoever takes it out does, under the lock, what is to be done with that.
+    fn take_alone(&self, does: impl FnOnce(&Word<'a>)) -> Option<Word<'a>> {
         let key = self.alone.get();
-        if key == NOTHING { None } else { self.engine.lones.with(|all| all.take(key)) }
+        if key == NOTHING {
+            return None;
+        }
+        self.engine.lones.with(|all| {
+            let word = all.take(key)?;
+            does(&word);
+            Some(word)
+        })
     }
 }
 
 impl Word<'_> {
-    fn closes_alone(&self) {
-        if let Some(leaf) = &self.closes {
-            leaf.closing();
-            leaf.closed()
-        }
+    fn closing(&self) {
+        self.closes.iter().for_each(|leaf| leaf.closing())
+    }
+
+    fn closed(&self) {
+        self.closes.iter().for_each(|leaf| leaf.closed())
     }
 
     /// It is closed without an end.
     pub fn leaves_alone(self) {
         let mut panics = Panics::default();
-        panics.run(|| self.closes_alone());
+        panics.run(|| self.closed());
         panics.run(|| self.hears.iter().for_each(|it| it.tell(effect::GONE, 0)));
         panics.run(|| drop(self));
         panics.go_on()

@@ -386,7 +386,7 @@ impl<'a> Scope<'a> {
     pub fn shut(&self) {
         let mut panics = Panics::default();
         loop {
-            let alone: Vec<_> = self.engine.lones.with(|it| it.take_all().collect());
+            let alone = self.engine.lones.with(|it| it.take_all());
             let many = alone.len();
             alone.into_iter().for_each(|it| _ = panics.run(|| it.leaves_alone()));
             let before = self.totals();

@@ -422,10 +422,9 @@ impl World {
                     let mut state = self.state();
                     let at = at.min(state.seen.len().saturating_sub(1));
                     let Some(seen) = state.seen.get_mut(at) else { return };
-                    let released = seen.released.clone().filter(|_| !seen.is_over); // else they stand behind the end, which it may be told now
-                    (seen.subscription.take(), released)
+                    (seen.subscription.take(), seen.released.clone())
                 };
-                let is_due = subscription.is_some() && self.is_alone;
+                let is_due = subscription.is_some() && self.is_alone && self.depth.load(SeqCst) == 1; // else what is under way may have closed it
                 drop(subscription); // outside the lock
                 if is_due && released.is_some_and(|it| !it.load(SeqCst)) {
                     self.wrong("what a subscription holds is not released as it has been disposed of".into())
