@@ -150,6 +150,18 @@ fn a_scope_that_is_shut_closes_it_and_drops_its_observer() {
     assert_eq!(subject.observers(), 0);
 }
 
+#[test]
+fn a_root_that_came_to_hold_something_drops_its_observer_as_it_is_disposed_of() {
+    let dropped = Arc::new(AtomicUsize::new(0));
+    let (source, to) = kept();
+    let file = File(dropped.clone());
+    let subscription = source.each(move |_| _ = &file);
+    let emitter = to.borrow_mut().take().unwrap();
+    emitter.hold(File(dropped.clone()));
+    subscription.dispose();
+    assert_eq!((dropped.load(SeqCst), emitter.is_closed()), (2, true), "though its emitter is kept");
+}
+
 /// As it is dropped it holds a resource for a source, which finds that closed.
 struct Holds(local::Emitter<'static, i32>, Rc<Cell<u32>>);
 

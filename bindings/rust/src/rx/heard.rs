@@ -57,7 +57,7 @@ impl<T, E, O: FnMut(Note<T, E>)> Heard<'_, T, E, O> {
         if self.root.is_stopped() { observer.take() } else { None }
     }
 
-    fn leave(&self) {
+    pub fn leave(&self) {
         drop(self.observer.try_with(Option::take)) // who tells it drops it, behind that
     }
 }

@@ -133,8 +133,12 @@ impl<'a, T, E, O: FnMut(Note<T, E>)> Heard<'a, T, E, O> {
     pub fn left_alone(&self) {
         let mut panics = Panics::default();
         panics.run(|| self.lone.empty());
-        self.lone.push(Waits::Note(Note::Completed)); // which a root that has stopped does not hear
-        self.tell_waiting(&mut panics);
+        if self.lone.phase() == Phase::Alone {
+            self.lone.push(Waits::Note(Note::Completed)); // which a root that has stopped does not hear
+            self.tell_waiting(&mut panics);
+        } else {
+            panics.run(|| self.leave()); // by the engine, which tells nobody else now
+        }
         panics.go_on()
     }
 

@@ -149,7 +149,10 @@ pub fn run_all(seeds: std::ops::Range<u64>, room: u32, workers: usize) -> Result
         })?;
         if tells.is_some() && program.threads == 1 {
             let shuts = if program.shuts() { "shuts" } else { "keeps" };
-            println!("told {seed} {shuts} {}", digest(told, tells.as_deref() == Some("whole")))
+            println!("told {seed} {shuts} {}", digest(told, tells.as_deref() == Some("whole")));
+            if tells.as_deref() == Some("whole") {
+                println!("{program:?}")
+            }
         }
         Ok(())
     };
