@@ -6,6 +6,8 @@
 //    --busy          each program is of one operator, and some callback does something from within; then more than two in a hundred may differ by the manner
 //    --over FOLDER   over another copy of the package
 //    --show NAME     prints the programs of a difference; --shrink: prints the smallest program that goes wrong, or differs, in the same way
+//    --to FILE       writes the seeds of each difference there
+//    --plant         plants faults, one of each kind, in what the package came to: which of them would be seen
 //    --chains        chains of functions on items in their place
 //    --lone          over the package alone, with roots that need no engine told by it too: nothing differs
 //    --deep          each step where the stack is almost full, over the package alone: then only what stays open is looked at
@@ -16,20 +18,33 @@ import { resolve } from 'node:path';
 import { pathToFileURL } from 'node:url';
 import { chains } from './random/chains.mjs';
 import { deeply } from './random/deep.mjs';
-import { FAULTS, isHeardSame, nameOf } from './random/differences.mjs';
+import { isHeardSame, isOfRxJS, nameOf } from './random/differences.mjs';
 import { drawn } from './random/drawing.mjs';
 import { alone } from './random/lone.mjs';
 import { OPERATORS, SOURCES } from './random/mix.mjs';
-import { Run, inOrder } from './random/running.mjs';
+import { planted } from './random/planting.mjs';
+import { Run, inOrder, isReleasedEarlier } from './random/running.mjs';
 import { shrunk } from './random/shrinking.mjs';
 
 const words = process.argv.slice(2), take = (name, many) => (words.includes(name) ? words.splice(words.indexOf(name), many) : null);
 const given = take('--seeds', 2)?.[1].split(',').map(Number) ?? null;
-const show = take('--show', 2)?.[1], [is_chains, is_deep, is_lone, is_busy, is_shrunk] = ['--chains', '--deep', '--lone', '--busy', '--shrink'].map((it) => take(it, 1) !== null);
+const show = take('--show', 2)?.[1], to = take('--to', 2)?.[1], [is_chains, is_deep, is_lone, is_busy, is_shrunk, plants] = ['--chains', '--deep', '--lone', '--busy', '--shrink', '--plant'].map((it) => take(it, 1) !== null);
 const folder = resolve(take('--over', 2)?.[1] ?? `${import.meta.dirname ?? new URL('.', import.meta.url).pathname}/..`), [many = 10000, first = 1] = words.map(Number);
 const require = createRequire(import.meta.url), home = '/usr/share/nodejs/rxjs/dist/cjs', load = (name) => import(pathToFileURL(`${folder}/${name}.mjs`).href);
 const peer = [require(home), require(`${home}/operators`)], ours = [await load('index'), await load('operators')];
-const over = ([rx, ops], it, puts_off = false, mends = false) => new Run(rx, ops, it, puts_off, mends).all();
+const over = ([rx, ops], it, manner) => new Run(rx, ops, it, manner).all();
+/** What a library comes to in another manner, each once. */
+function overAgain(library, it) {
+  const known = new Map();
+  return (manner) => {
+    const key = JSON.stringify({ ...manner, mends: [...manner.mends] });
+    if (!known.has(key)) {
+      known.set(key, over(library, it, manner));
+      if (library === ours) ours[0].close();
+    }
+    return known.get(key);
+  };
+}
 
 // A dead engine is put out of the way, so that the next program has one of its own.
 const { glue } = await load('src/engine/glue'), module = new WebAssembly.Module(require('node:fs').readFileSync(process.env.CELLARCLIFF_WASM ?? `${folder}/engine.wasm`));
@@ -45,8 +60,10 @@ function kept(it) {
   try {
     const before = rx.counts(), run = over(ours, it);
     const is_dead = run.lines.some((line) => /the engine stopped within a call/.test(line));
-    rx.close();
-    if (run.lines.some((line) => line.startsWith('100 begins subscribe'))) rx.close(); // what a release subscribes to, as all is closed, is open
+    for (let many = -1; many < run.lines.length;) { // what a release subscribes to, as all is closed, is open
+      many = run.lines.length;
+      rx.close();
+    }
     const after = rx.counts(), left = run.kept(), count = `${run.resources} resources`;
     if (is_dead) return { run, wrong: 'the engine dies' };
     if (run.twice > 0) return { run, wrong: 'a resource is released twice', count };
@@ -66,14 +83,31 @@ function tried(it) {
   const { run: b, wrong } = kept(it);
   if (wrong !== null) return { a, b, wrong };
   if (inOrder(a.lines) === inOrder(b.lines)) return { a, b, wrong };
-  const name = nameOf(it, a, b, (puts_off, mends) => [over(peer, it, puts_off, mends), over(ours, it, puts_off, mends)]) ?? 'NO NAME';
-  ours[0].close();
+  const name = nameOf(it, a, b, overAgain(peer, it), overAgain(ours, it)) ?? 'NO NAME';
   return { a, b, name, wrong: name === 'NO NAME' ? 'it differs, and no row says why' : null };
 }
 
 if (is_chains) process.exit(chains(peer, ours, many, first));
 if (is_lone) process.exit(alone(ours, many, first, is_busy));
 if (is_deep) process.exit(await deeply(ours, many, first));
+
+const sown = { agree: 0, named: 0, as_late: 0 }, passed = new Map();
+/** Plants faults in what the package came to, and counts those that a reason lets pass; but those that release no later than RxJS does. */
+function plant(seed, it, a, b, name) {
+  const theirs = overAgain(peer, it), mine = overAgain(ours, it);
+  for (const [fault, faulty, alike] of planted(b, seed)) {
+    if (inOrder(a.lines) === inOrder(faulty.lines)) continue;
+    sown[name ? 'named' : 'agree']++;
+    const by = nameOf(it, a, faulty, theirs, (manner) => alike(mine(manner)));
+    if (by === null) continue;
+    if (isReleasedEarlier(a.lines, faulty.lines)) {
+      sown.as_late++;
+      continue;
+    }
+    const key = `${name ? 'named' : 'agree'}: ${fault}: ${by}`;
+    passed.set(key, [...passed.get(key) ?? [], seed]);
+  }
+}
 
 const total = { programs: 0, on: 0, within: 0, items: 0, resources: 0, heard: 0, of_rxjs: 0, rows: 0, wrong: 0 }, by = new Map(), reached = new Map(), used = new Set();
 const words_of = (it) => (Array.isArray(it) ? [...(typeof it[0] === 'string' ? [it[0]] : []), ...it.flatMap(words_of)] : it && typeof it === 'object' ? Object.values(it).flatMap(words_of) : []);
@@ -86,6 +120,7 @@ for (const seed of seeds) {
     continue;
   }
   total.programs++;
+  if (plants && !wrong) plant(seed, it, a, b, name);
   total.resources += b.resources;
   total.items += a.lines.filter((line) => / [xyz] next /.test(line)).length;
   for (const one of words_of(it.whole)) used.add(one);
@@ -95,7 +130,7 @@ for (const seed of seeds) {
   const what = wrong ?? name;
   by.set(what, [...by.get(what) ?? [], seed]);
   if (name && !isHeardSame(a, b)) total.heard++;
-  if (wrong) total.wrong++; else if (name in FAULTS) total.of_rxjs++; else total.rows++;
+  if (wrong) total.wrong++; else if (isOfRxJS(name)) total.of_rxjs++; else total.rows++;
   if (!(show ? what.includes(show) : wrong && is_shrunk)) continue;
   const least = is_shrunk ? shrunk(it, (one) => (({ name: is, wrong: goes }) => goes === wrong && is === name)(tried(one))) : it;
   console.log(what);
@@ -105,5 +140,10 @@ const percent = (it) => `${it} (${(100 * it / total.programs).toFixed(2)} %)`, k
 console.log(`${total.programs} programs (${total.within} do something from within; ${total.on} more run on), ${total.items} items heard, ${total.resources} resources`);
 console.log(`reached: ${known.filter((one) => used.has(one)).length} of ${known.length} operators and sources; ${reached.size} kinds of acts from within, the rarest ${Math.min(...reached.values())} times`);
 console.log(`${total.wrong} go wrong; ${percent(total.of_rxjs)} differ by a fault of RxJS, ${percent(total.rows)} by the manner of the package; ${percent(total.heard)} in what an observer hears`);
+if (to) require('node:fs').writeFileSync(to, JSON.stringify([...by]));
 for (const [name, seeds] of by) console.log(`- ${name}: ${seeds.length} (${seeds.slice(0, 8).join(', ')})`);
+if (plants) {
+  console.log(`planted: ${sown.agree} where both agree, ${sown.named} where a reason says why they do not; ${sown.as_late} release no later than RxJS, and pass`);
+  for (const [key, seeds] of [...passed].sort()) console.log(`- let pass: ${key}: ${seeds.length} of ${new Set(seeds).size} programs (${[...new Set(seeds)].slice(0, 5).join(', ')})`);
+}
 process.exit(total.wrong || (!is_busy && total.rows > total.programs / 50) ? 1 : 0);

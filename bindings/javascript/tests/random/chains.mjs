@@ -26,7 +26,7 @@ function run([rx, ops], it) {
   };
   const operator = ([name, ...words], i) => {
     const [kinds, make] = OPERATORS[name];
-    return make({ rx, ops, say, clock: new rx.VirtualTimeScheduler() }, ...words.map((word, k) => (kinds[k] === 'f' ? called(word, i) : word)));
+    return make({ rx, ops, say, clock: new rx.VirtualTimeScheduler(), mends: new Set(), finalized: rx.finalize }, ...words.map((word, k) => (kinds[k] === 'f' ? called(word, i) : word)));
   };
   let chain = it.is_hot ? subject : it.fails ? rx.concat(it.items, rx.throwError(() => error)) : rx.from(it.items), told = 0;
   it.operators.forEach((one, i) => { chain = chain.pipe(operator(one, i), rx.tap((value) => say('behind', i, shown(value)))); });

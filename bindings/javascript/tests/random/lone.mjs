@@ -8,7 +8,7 @@ export function alone([rx, ops], many, first, is_busy) {
   let lone = 0, wrong = 0;
   const all = (it, is_alone) => {
     engine.isRoomy = is_alone ? () => { const is = isRoomy.call(engine); lone += is; return is; } : () => false;
-    const before = rx.counts(), run = new Run(rx, ops, it, false, false).all(), open = rx.counts();
+    const before = rx.counts(), run = new Run(rx, ops, it).all(), open = rx.counts();
     rx.close();
     if (run.lines.some((line) => line.startsWith('100 begins subscribe'))) rx.close(); // what a release subscribes to, as all is closed, is open
     const after = rx.counts();

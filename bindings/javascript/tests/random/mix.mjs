@@ -1,14 +1,18 @@
 // Every creation function and every operator that the package has, with the kinds of its arguments and how it is made of them.
 //
 // Kinds: n a number below 4, h that of a subject, b yes or no, l a label, f a function on items that may fail, o an observable, O two or three of them, i a function that
-// answers one of two observables. `at` has the library (`rx`), its operators under rxjs/operators (`ops`), virtual time (`clock`), and `say`.
+// answers one of two observables. `at` has the library (`rx`), its operators under rxjs/operators (`ops`), virtual time (`clock`), `say`, what RxJS does wrong
+// and the program itself is to mend (`mends`), how subjects are to tell, if not as they do (`subject`), and `finalize` (`finalized`).
 // Left out are what waits for the platform's own time (promises, async iterables, streams, animation frames), other names of the same
 // (flatMap, exhaust, combineAll, never, and the older operators merge, concat, zip, race, combineLatest, partition).
 
 const even = (it) => it % 2 === 0, flattened = (rx, n) => [rx.mergeAll, rx.concatAll, rx.switchAll, rx.exhaustAll][n]();
 
 export const SOURCES = {
-  using: ['lof', ({ rx, resource }, l, o, f) => rx.using(() => resource(l), () => f(() => o)(3))],
+  using: ['lof', ({ rx, resource, mends, finalized }, l, o, f) => (mends.has('using') ? rx.defer(() => {
+    const made = resource(l);
+    return rx.defer(() => f(() => o)(3)).pipe(finalized(() => made.unsubscribe()));
+  }) : rx.using(() => resource(l), () => f(() => o)(3)))],
   of: ['nnn', ({ rx }, ...items) => rx.of(...items)],
   from: ['nnn', ({ rx }, ...items) => rx.from(items)],
   range: ['nn', ({ rx }, start, count) => rx.range(start, count)],
@@ -34,7 +38,7 @@ export const SOURCES = {
   concat: ['O', ({ rx }, all) => rx.concat(...all)],
   combineLatest: ['O', ({ rx }, all) => rx.combineLatest(all)],
   zip: ['O', ({ rx }, all) => rx.zip(...all)],
-  race: ['O', ({ rx }, all) => rx.race(...all)],
+  race: ['O', ({ rx, mends }, all) => (mends.has('race') ? racing(rx, all) : rx.race(...all))],
   forkJoin: ['O', ({ rx }, all) => rx.forkJoin(all)],
   connectable: ['ob', ({ rx, connects }, o, b) => connects(rx.connectable(o, { connector: () => new rx.Subject(), resetOnDisconnect: b }))],
 };
@@ -62,11 +66,11 @@ const ITEMS = {
     next: f(() => say('tapped', l)), error: () => say('tapped', l, 'error'), complete: () => say('tapped', l, 'completed'), unsubscribe: () => say('tapped', l, 'left'),
     finalize: () => say('tapped', l, 'finalized'), subscribe: () => say('tapped', l, 'subscribed'),
   })],
-  'finalize of a resource': ['l', ({ rx, resource }, l) => (source) => rx.defer(() => {
+  'finalize of a resource': ['l', ({ rx, resource, finalized }, l) => (source) => rx.defer(() => {
     const made = resource(l);
-    return source.pipe(rx.finalize(() => made.unsubscribe()));
+    return source.pipe(finalized(() => made.unsubscribe()));
   })],
-  finalize: ['l', ({ rx, say }, l) => rx.finalize(() => say('finalized', l))],
+  finalize: ['l', ({ say, finalized }, l) => finalized(() => say('finalized', l))],
 };
 
 const ENDS = {
@@ -109,11 +113,11 @@ const FLAT = {
 
 const AGAIN = {
   catchError: ['i', ({ rx }, i) => rx.catchError(i)],
-  repeat: ['n', ({ rx }, n) => rx.repeat(n)],
-  'repeat with a delay': ['no', ({ rx }, n, o) => rx.repeat({ count: n, delay: () => o })],
+  repeat: ['n', ({ rx, mends }, n) => oneAtATime(rx, mends, rx.repeat(n))],
+  'repeat with a delay': ['no', ({ rx, mends }, n, o) => oneAtATime(rx, mends, rx.repeat({ count: n, delay: () => behind(rx, mends, o) }))],
   repeatWhen: ['no', ({ rx, mends }, n, o) => oneAtATime(rx, mends, rx.repeatWhen((ends) => rx.concatMap(() => o)(ends).pipe(rx.take(n))))],
-  retry: ['n', ({ rx }, n) => rx.retry(n)],
-  'retry with a delay': ['nob', ({ rx }, n, o, b) => rx.retry({ count: n, delay: () => o, resetOnSuccess: b })],
+  retry: ['n', ({ rx, mends }, n) => oneAtATime(rx, mends, rx.retry(n))],
+  'retry with a delay': ['nob', ({ rx, mends }, n, o, b) => oneAtATime(rx, mends, rx.retry({ count: n, delay: () => behind(rx, mends, o), resetOnSuccess: b }))],
   retryWhen: ['no', ({ rx, mends }, n, o) => oneAtATime(rx, mends, rx.retryWhen((ends) => rx.concatMap(() => o)(ends).pipe(rx.take(n))))],
   onErrorResumeNext: ['o', ({ ops }, o) => ops.onErrorResumeNext(o)],
 };
@@ -124,7 +128,7 @@ const OTHERS = {
   concatWith: ['o', ({ rx }, o) => rx.concatWith(o)],
   endWith: ['n', ({ rx }, n) => rx.endWith(n)],
   mergeWith: ['o', ({ rx }, o) => rx.mergeWith(o)],
-  raceWith: ['o', ({ rx }, o) => rx.raceWith(o)],
+  raceWith: ['o', ({ rx, mends }, o) => (mends.has('race') ? (source) => racing(rx, [source, o]) : rx.raceWith(o))],
   sequenceEqual: ['o', ({ rx }, o) => rx.sequenceEqual(o)],
   startWith: ['n', ({ rx }, n) => rx.startWith(n)],
   withLatestFrom: ['o', ({ rx }, o) => rx.withLatestFrom(o)],
@@ -167,19 +171,65 @@ const LISTS = {
 };
 
 const SHARING = {
-  share: ['', ({ rx }) => rx.share()],
-  'share with words': ['bbbo', ({ rx, mends }, e, c, z, o) => rx.share({ resetOnError: e, resetOnComplete: c, resetOnRefCountZero: z || (() => (mends ? o.pipe(rx.catchError(() => rx.of(0))) : o)) })],
+  share: ['', (at) => at.rx.share(connector(at))],
+  'share with words': ['bbbo', (at, e, c, z, o) => sharing(at, { ...connector(at), resetOnError: e, resetOnComplete: c }, z ? null : o)],
   shareReplay: ['nb', ({ rx }, n, refCount) => rx.shareReplay({ bufferSize: n + 1, refCount })],
-  connect: ['f', ({ rx }, f) => rx.connect((it) => rx.merge(it, it.pipe(rx.map(f((one) => one + 1)))))],
-  multicast: ['', ({ rx }) => rx.pipe(rx.multicast(() => new rx.Subject()), rx.refCount())],
-  publish: ['', ({ rx }) => rx.pipe(rx.publish(), rx.refCount())],
-  publishBehavior: ['n', ({ rx }, n) => rx.pipe(rx.publishBehavior(n), rx.refCount())],
+  connect: ['f', (at, f) => leavesItsSource(at, at.rx.connect((it) => at.rx.merge(it, it.pipe(at.rx.map(f((one) => one + 1)))), connector(at)))],
+  multicast: ['', ({ rx, subject }) => rx.pipe(rx.multicast(() => subject?.(new rx.Subject()) ?? new rx.Subject()), rx.refCount())],
+  publish: ['', ({ rx, subject }) => rx.pipe(subject ? rx.multicast(subject(new rx.Subject())) : rx.publish(), rx.refCount())],
+  publishBehavior: ['n', ({ rx, subject }, n) => rx.pipe(subject ? rx.multicast(subject(new rx.BehaviorSubject(n))) : rx.publishBehavior(n), rx.refCount())],
   publishLast: ['', ({ rx }) => rx.pipe(rx.publishLast(), rx.refCount())],
-  publishReplay: ['n', ({ rx }, n) => rx.pipe(rx.publishReplay(n + 1), rx.refCount())],
+  publishReplay: ['n', ({ rx, subject }, n) => rx.pipe(subject ? rx.multicast(subject(new rx.ReplaySubject(n + 1))) : rx.publishReplay(n + 1), rx.refCount())],
 };
 
-/** With `mends` what is subscribed to again leaves what was before. */
-const oneAtATime = (rx, mends, again) => (mends ? (source) => rx.defer(() => {
+const connector = ({ rx, subject }) => (subject ? { connector: () => subject(new rx.Subject()) } : undefined);
+/** With the mend `reset` a notifier tells in place of its error, and is subscribed to only where there is something to reset. */
+function sharing({ rx, mends }, words, notifier) {
+  if (notifier === null) return rx.share({ ...words, resetOnRefCountZero: true });
+  if (!mends.has('reset')) return rx.share({ ...words, resetOnRefCountZero: () => notifier });
+  return (source) => {
+    let open = false;
+    const ends = () => { open = false; }, known = source.pipe(rx.tap({ subscribe: () => { open = true; }, error: ends, complete: ends }));
+    return known.pipe(rx.share({ ...words, resetOnRefCountZero: () => (open ? notifier.pipe(rx.catchError(() => rx.of(0))) : rx.NEVER) }));
+  };
+}
+/** With the mend `connect` the source is left, or not even subscribed to, once nobody hears what comes of it. */
+const leavesItsSource = ({ rx, mends }, connected) => (mends.has('connect') ? (source) => new rx.Observable((to) => {
+  const ended = new rx.ReplaySubject(1);
+  to.add(() => ended.next());
+  return source.pipe(rx.takeUntil(ended), connected).subscribe(to);
+}) : connected);
+/** With the mend `behind` what it tells as it is subscribed to comes as soon as that has returned. */
+const behind = (rx, mends, notifier) => (mends.has('behind') ? new rx.Observable((to) => {
+  let is_in = true, told = null;
+  const tells = (act) => { if (!is_in) act(); else { told ??= act; whole.unsubscribe(); } };
+  const whole = new rx.Subscriber({ next: (it) => tells(() => to.next(it)), error: (error) => tells(() => to.error(error)), complete: () => tells(() => to.complete()) });
+  to.add(whole);
+  notifier.subscribe(whole);
+  is_in = false;
+  told?.();
+}) : notifier);
+
+/** With the mend `race` one that has lost is left, even where it is just being subscribed to. */
+const racing = (rx, all) => new rx.Observable((to) => {
+  const running = [];
+  let won = null;
+  const wins = (one, act) => {
+    won ??= one;
+    for (const other of running) if (other !== won) other.unsubscribe();
+    act();
+  };
+  for (const source of all) {
+    if (won !== null || to.closed) return;
+    const one = new rx.Subscriber({ next: (it) => wins(one, () => to.next(it)), error: (error) => wins(one, () => to.error(error)), complete: () => wins(one, () => to.complete()) });
+    running.push(one);
+    to.add(one);
+    source.subscribe(one);
+  }
+});
+
+/** With the mend `again` what is subscribed to again leaves what was before. */
+const oneAtATime = (rx, mends, again) => (mends.has('again') ? (source) => rx.defer(() => {
   let last = null;
   return again(new rx.Observable((to) => {
     last?.unsubscribe();

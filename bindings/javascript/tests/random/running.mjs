@@ -1,5 +1,6 @@
 // What comes of a pipeline over a library: all that happens, in its order, each line with the step in which it happened.
 import { HOTS, WHERE } from './drawing.mjs';
+import { finalizing, inLeaves, releasing, waiting } from './leaves.mjs';
 import { OPERATORS, SOURCES } from './mix.mjs';
 
 const MOST = 400; // lines; beyond it a pipeline runs on, and is left out
@@ -12,20 +13,28 @@ function shown(it) {
   return it;
 }
 
-const TELLS = ['next', 'complete', 'error'];
+/** Whether something comes behind the end of its source. */
+const isFollowed = (name) => /^(concatWith|endWith|startWith|onErrorResumeNext|catchError|repeat|retry|defaultIfEmpty|timeoutWith)/.test(name);
+/** Whether it calls a function that makes what it subscribes to. */
+const hasPlace = (name) => OPERATORS[name][0].includes('i') || name === 'expand';
+export const TELLS = ['next', 'complete', 'error'];
 
 export class Run {
-  /** With `puts_off` what callbacks tell is told as soon as the step has returned; with `mends` a notifier for a reset tells in place of its error,
-   *  and what is repeated leaves what was before. */
-  constructor(rx, ops, it, puts_off = false, mends = false) {
-    Object.assign(this, { rx, ops, it, puts_off, mends, put_off: [], lines: [], step: 0, resources: 0, functions: 0, open: new Map(), twice: 0, is_on: false, subscriptions: {}, connectables: [], frame: 0 });
+  /** In another manner than a library's own: callbacks do these kinds of acts as soon as the step has returned (`puts_off`); what a release throws
+   *  is lost (`hushes`); who is being told something hears the rest behind that, by each subscription to a subject, each observer, or each function
+   *  besides (`leaves`); what is followed by something is released first (`releases`); the program mends what RxJS does wrong (`mends`: mix.mjs). */
+  constructor(rx, ops, it, { puts_off = [], hushes = false, leaves = '', releases = false, mends = new Set() } = {}) {
+    Object.assign(this, { rx, ops, it, puts_off, hushes, leaves, releases, mends });
+    Object.assign(this, { put_off: [], place: null, lines: [], step: 0, resources: 0, functions: 0, open: new Map(), twice: 0, is_on: false, subscriptions: {}, connectables: [], frame: 0 });
     this.counted = Object.fromEntries(WHERE.map((where) => [where, 0]));
     this.reached = new Set();
     this.hots = Array.from({ length: HOTS }, (_, i) => this.hot(i));
     this.clock = new rx.VirtualTimeScheduler(undefined, Infinity);
     this.handlers = new Map();
     this.at = {
-      rx, ops, mends, clock: this.clock, resource: (l) => this.resource(l), emitter: (n) => this.emitter(n), connects: (it) => (this.connectables.push(it), it),
+      rx, ops, mends, clock: this.clock,
+      finalized: releases ? finalizing(rx) : rx.finalize, subject: leaves ? (it) => inLeaves(rx, it, leaves === 'subjects') : undefined,
+      resource: (l) => this.resource(l), emitter: (n) => this.emitter(n), connects: (it) => (this.connectables.push(it), it),
       say: (...of) => {
         this.say(...of);
         this.within(/finalized|left/.test(of.join(' ')) ? 'release' : 'call');
@@ -35,7 +44,7 @@ export class Run {
   hot(i) {
     const { rx } = this, made = i === 4 ? new rx.BehaviorSubject(1) : i === 5 ? new rx.ReplaySubject(2) : i === 6 ? new rx.AsyncSubject() : new rx.Subject();
     if (i === 7) made.complete();
-    return made;
+    return this.leaves ? inLeaves(rx, made, this.leaves === 'subjects') : made;
   }
   say(...of) {
     if (this.lines.length > MOST) {
@@ -51,10 +60,11 @@ export class Run {
     for (const it of this.it.within) {
       if (it.where !== where || it.at !== at) continue;
       this.reached.add(`${it.act[0]} within ${where}`);
-      if (this.puts_off && TELLS.includes(it.act[0])) {
+      if (this.puts_off.includes(it.act[0])) {
         this.put_off.push(it.act);
         continue;
       }
+      if (this.hushes && where === 'release' && it.act[0] === 'throw') return;
       this.say('begins', 'within', where);
       if (it.act[0] === 'throw') throw new Error(`within ${where}`);
       this.act(it.act);
@@ -88,35 +98,45 @@ export class Run {
     const from = this.source(source), all = operators.map((it) => this.operator(it));
     return all.reduce((it, one) => it.pipe(one), from);
   }
+  inner(it) { return this.releases ? releasing(this.rx)(this.build(it)) : this.build(it); }
   source([name, ...words]) {
     if (name === 'hot') return this.hots[words[0]];
     if (name === 'cold') return this.cold(...words);
-    if (name === 'at once') return this.atOnce(...words);
-    const [kinds, make] = SOURCES[name];
-    return make(this.at, ...this.words(kinds, words));
+    return name === 'at once' ? this.atOnce(...words) : this.made(SOURCES[name], words);
   }
   operator([name, ...words]) {
-    const [kinds, make] = OPERATORS[name];
-    return make(this.at, ...this.words(kinds, words));
+    if (this.releases && isFollowed(name)) return this.rx.pipe(releasing(this.rx), this.made(OPERATORS[name], words));
+    if (this.leaves !== 'places' || !hasPlace(name)) return this.made(OPERATORS[name], words);
+    const outer = this.place, place = this.place = [];
+    try { return this.rx.pipe(waiting(this.rx, place), this.made(OPERATORS[name], words)); } finally { this.place = outer; }
   }
+  made([kinds, make], words) { return make(this.at, ...this.words(kinds, words)); }
   words(kinds, words) {
     return words.map((it, i) => {
       switch (kinds[i]) {
         case 'f': return (act) => this.function(it, act);
-        case 'o': return this.build(it);
-        case 'O': return it.map((one) => this.build(one));
-        case 'i': { const [fails, a, b] = it, [odd, even] = [this.build(a), this.build(b)]; return this.function(fails, (n) => (n % 2 ? odd : even)); }
+        case 'o': return this.inner(it);
+        case 'O': return it.map((one) => this.inner(one));
+        case 'i': {
+          const { place } = this, [fails, a, b] = it;
+          this.place = null;
+          const [odd, even] = [this.inner(a), this.inner(b)];
+          this.place = place;
+          return this.function(fails, (n) => (n % 2 ? odd : even));
+        }
         default: return it;
       }
     });
   }
   function(fails, act) {
-    const label = this.functions++;
+    const label = this.functions++, { place } = this;
     return (it) => {
       this.say('called', label);
       this.within('call');
       if (fails && number(it) === 3) throw new Error('called');
-      return act(number(it));
+      const made = act(number(it));
+      if (place?.length) place.at(-1).is_busy = false;
+      return made;
     };
   }
   /** Tells these items, each three moments behind the one before, and an end, or none. */
@@ -170,7 +190,7 @@ export class Run {
     if (what === 'subscribe') {
       // known before it tells anything, so that it can be left from within
       const { next, error, complete } = this.observer(who), whole = this.subscriptions[who] = this.rx.Subscriber.create(next, error, complete);
-      this.pipe.subscribe(whole);
+      (['roots', 'places'].includes(this.leaves) ? waiting(this.rx)(this.pipe) : this.pipe).subscribe(whole);
     } else if (what === 'unsubscribe') this.subscriptions[who]?.unsubscribe();
     else if (what === 'connect') this.connections = this.connectables.map((it) => it.connect());
     else if (what === 'time') {
@@ -202,7 +222,7 @@ export class Run {
         if (this.is_on) throw new Error('runs on');
         this.step++;
         this.does(() => this.act(it));
-        for (const late of this.put_off.splice(0)) this.does(() => this.act(late));
+        for (let late; (late = this.put_off.shift());) this.does(() => this.act(late));
       }
       this.step = 99;
       for (const it of [...Object.values(this.subscriptions), ...this.connections ?? []]) this.does(() => it.unsubscribe());
@@ -217,18 +237,20 @@ export class Run {
   }
 }
 
-const MARKS = ['begins', 'ends'];
-const isMark = (line) => MARKS.includes(line.split(' ')[1]) || line.startsWith('100 ');
+/** Whether it is said of what is under way, or once all is left. */
+export const isMark = (line) => {
+  const at = line.indexOf(' ') + 1;
+  return line.startsWith('begins ', at) || line.startsWith('ends ', at) || line.startsWith('100 ');
+};
 /** All that happens, in its order: what is compared. */
 export const inOrder = (lines) => lines.filter((it) => !isMark(it)).join(', ');
-const isRelease = (line) => /^\d+ (released|finalized|tapped \d+ (left|finalized))/.test(line);
-export const isReleaseOrMade = (line) => isRelease(line) || line.includes(' made ');
+export const isRelease = (line) => /^\d+ (released|finalized|tapped \d+ (left|finalized))/.test(line);
 /** The same, where releases that stand behind each other have no order. */
-export function inOrderButReleases(lines, isOne = isRelease) {
+export function inOrderButReleases(lines) {
   const told = [];
   let run = [];
   for (const it of [...lines.filter((one) => !isMark(one)), null]) {
-    if (it !== null && isOne(it)) run.push(it);
+    if (it !== null && isRelease(it)) run.push(it);
     else {
       told.push(...run.sort(), it);
       run = [];
