@@ -4,6 +4,7 @@
 // Usage: node random.mjs [MANY] [SEED] [OPTION ..]
 //    --seeds N,N     these alone
 //    --busy          each program is of one operator, and some callback does something from within; then more than two in a hundred may differ by the manner
+//    --fed           the same, of operators that take observables, whose source callbacks feed
 //    --over FOLDER   over another copy of the package
 //    --show NAME     prints the programs of a difference; --shrink: prints the smallest program that goes wrong, or differs, in the same way
 //    --to FILE       writes the seeds of each difference there
@@ -28,7 +29,8 @@ import { shrunk } from './random/shrinking.mjs';
 
 const words = process.argv.slice(2), take = (name, many) => (words.includes(name) ? words.splice(words.indexOf(name), many) : null);
 const given = take('--seeds', 2)?.[1].split(',').map(Number) ?? null;
-const show = take('--show', 2)?.[1], to = take('--to', 2)?.[1], [is_chains, is_deep, is_lone, is_busy, is_shrunk, plants] = ['--chains', '--deep', '--lone', '--busy', '--shrink', '--plant'].map((it) => take(it, 1) !== null);
+const show = take('--show', 2)?.[1], to = take('--to', 2)?.[1], [is_chains, is_deep, is_lone, is_fed, is_busy_too, is_shrunk, plants] = ['--chains', '--deep', '--lone', '--fed', '--busy', '--shrink', '--plant'].map((it) => take(it, 1) !== null);
+const is_busy = is_fed ? 'fed' : is_busy_too;
 const folder = resolve(take('--over', 2)?.[1] ?? `${import.meta.dirname ?? new URL('.', import.meta.url).pathname}/..`), [many = 10000, first = 1] = words.map(Number);
 const require = createRequire(import.meta.url), home = '/usr/share/nodejs/rxjs/dist/cjs', load = (name) => import(pathToFileURL(`${folder}/${name}.mjs`).href);
 const peer = [require(home), require(`${home}/operators`)], ours = [await load('index'), await load('operators')];

@@ -13,6 +13,7 @@ export const isHeardSame = (a, b) => compared(a.lines, isHeard) === compared(b.l
 export const MENDED = {
   'RxJS goes on with what was before, beside what is repeated': [({ whole }) => hasWord(whole, (name) => /^(repeat|retry)/.test(name)), { mends: ['again'] }],
   'RxJS keeps a source for nobody': [({ whole }) => hasWord(whole, (name) => isSharing(name) || name === 'connect'), { mends: ['reset', 'connect'] }],
+  'RxJS resets a share by a notifier of the one before': [({ whole }) => hasWord(whole, isSharing), { mends: ['stale'] }],
   'RxJS goes on with one that has lost a race': [({ whole }) => hasWord(whole, (name) => /^race/.test(name)), { mends: ['race'] }],
   'RxJS leaves a resource open': [({ whole }) => hasWord(whole, (name) => name === 'using'), { mends: ['using'] }],
 };
@@ -51,7 +52,8 @@ function isSameBehind(it, over, ours) {
 export function nameOf(it, a, b, over, ours) {
   for (const orders of [ORDERS, EARLIER]) {
     for (const names of mannersOf(it)) {
-      const theirs = names.length ? over(mannerOf(names)) : a, order = orderOf(it, theirs.lines, b.lines, orders);
+      const manner = mannerOf(names), said = (run) => (manner.hushes ? run.lines.filter((line) => !line.includes(' raised within release')) : run.lines);
+      const order = orderOf(it, said(names.length ? over(manner) : a), said(b), orders);
       if (order !== null) return names[0] ?? order;
     }
   }

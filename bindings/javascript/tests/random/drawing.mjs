@@ -82,6 +82,7 @@ const one_of = (d) => ({ where: d.one(WHERE), at: d.below(3), act: d.one(ACTS)(d
 const feeding = (d) => ({ where: d.one(['item', 'item', 'item', 'call', 'call', 'release']), at: d.below(2), act: d.chance(0.8) ? ['next', d.first, d.below(6)] : ['complete', d.first] });
 const acts = (d) => (d.chance(0.5) ? Array.from({ length: 2 + d.below(2) }, () => feeding(d)) : Array.from({ length: 1 + d.below(3) }, () => one_of(d)));
 
+const fed = (d) => Array.from({ length: 2 + d.below(3) }, () => feeding(d));
 /** An operator over a subject, often with a resource before it; the observables that it takes are simple ones as often as not. */
 function around(d, name) {
   const source = ['hot', hot(d)], before = d.chance(0.2) ? [['finalize of a resource', d.made++]] : [];
@@ -91,11 +92,13 @@ function around(d, name) {
   return { source, operators: [...before, it, ...(d.chance(0.5) ? [operator(d, 0)] : [])] };
 }
 const NAMES = Object.keys(OPERATORS).flatMap((name) => (/[oi]/.test(OPERATORS[name][0]) ? [name, name, name] : [name]));
-/** The program of a seed: its pipeline, what is done, and what callbacks do from within. With `busy` it is of one operator, and some callback always does something. */
+const FED = NAMES.filter((name) => /[oi]/.test(OPERATORS[name][0]));
+/** The program of a seed: its pipeline, what is done, and what callbacks do from within. If it is busy it is of one operator, and some callback always does
+ *  something; if it is 'fed' that operator takes observables, and callbacks feed its source. */
 export function drawn(seed, busy = false) {
-  const d = drawing(seed), name = NAMES[(busy ? seed : seed >> 1) % NAMES.length];
+  const d = drawing(seed), names = busy === 'fed' ? FED : NAMES, name = names[(busy ? seed : seed >> 1) % names.length];
   const whole = seed % 2 && !busy ? pipeline(d, 2) : around(d, name);
   const steps = [['subscribe', 'x'], ...Array.from({ length: STEPS }, () => step(d))];
   d.first = [...d.hots][0] ?? 0;
-  return { whole, steps, within: busy || d.chance(WITHIN) ? acts(d) : [] };
+  return { whole, steps, within: busy === 'fed' ? fed(d) : busy || d.chance(WITHIN) ? acts(d) : [] };
 }

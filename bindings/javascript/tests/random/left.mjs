@@ -5,7 +5,7 @@ import { TELLS, isMark } from './running.mjs';
 /** What RxJS would have said without that, or null. */
 export const LEFT = {
   'RxJS subscribes to something for nobody': (it, a, b) => withoutPairs(a.lines, b.lines),
-  'RxJS never leaves an observable that is made as another one takes its place': (it, a, b) => (acts(it, ...TELLS) && a.left > b.left ? withoutLeft(a.lines, b.lines) : null),
+  'RxJS never leaves an observable that is made as another one takes its place': ({ within }, a, b) => (within.length > 0 && a.left > b.left ? withoutLeft(a.lines, b.lines) : null),
   'RxJS leaves an observable at the end that another one has taken the place of': (it, a, b) =>
     (acts(it, ...TELLS) && hasWord(it.whole, (name) => name.startsWith('switch')) && a.left === b.left ? releasedEarlier(a.lines, b.lines) : null),
 };

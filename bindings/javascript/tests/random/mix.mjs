@@ -183,14 +183,19 @@ const SHARING = {
 };
 
 const connector = ({ rx, subject }) => (subject ? { connector: () => subject(new rx.Subject()) } : undefined);
-/** With the mend `reset` a notifier tells in place of its error, and is subscribed to only where there is something to reset. */
+/** With the mend `reset` a notifier tells in place of its error, and is subscribed to only where there is something to reset; with `stale` it resets only
+ *  what was there as it was subscribed to. */
 function sharing({ rx, mends }, words, notifier) {
   if (notifier === null) return rx.share({ ...words, resetOnRefCountZero: true });
-  if (!mends.has('reset')) return rx.share({ ...words, resetOnRefCountZero: () => notifier });
+  if (!mends.has('reset') && !mends.has('stale')) return rx.share({ ...words, resetOnRefCountZero: () => notifier });
   return (source) => {
-    let open = false;
-    const ends = () => { open = false; }, known = source.pipe(rx.tap({ subscribe: () => { open = true; }, error: ends, complete: ends }));
-    return known.pipe(rx.share({ ...words, resetOnRefCountZero: () => (open ? notifier.pipe(rx.catchError(() => rx.of(0))) : rx.NEVER) }));
+    let many = 0, open = false;
+    const ends = () => { open = false; }, known = source.pipe(rx.tap({ subscribe: () => { many++; open = true; }, error: ends, complete: ends }));
+    const resets = () => {
+      const mine = many;
+      return open || mends.has('stale') ? notifier.pipe(rx.catchError(() => rx.of(0)), rx.filter(() => mine === many)) : rx.NEVER;
+    };
+    return known.pipe(rx.share({ ...words, resetOnRefCountZero: resets }));
   };
 }
 /** With the mend `connect` the source is left, or not even subscribed to, once nobody hears what comes of it. */

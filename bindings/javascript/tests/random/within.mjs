@@ -32,7 +32,7 @@ export function isPutOff(it, { lines: a }, { lines: b }) {
   const isNothing = from - 1 === busy.at(-1), isToldLater = manyFrom(b, to, theirs) >= manyFrom(a, from, theirs), [step, , what, whom] = wordsOf(tell);
   if (same(b[underWay(b, to)[busy.length - 1]])) { // it is told at once, but behind something else
     if (what === 'next') return !isRelease(theirs) && isToldLater && manyFrom(a, from, ours) >= manyFrom(b, to, ours);
-    return (isNothing || !isRelease(theirs)) && (isToldLater || isEnd(theirs) || (isNothing && !isEnd(ours)));
+    return (isNothing || !isRelease(theirs)) && (isToldLater || (isNothing && !isEnd(theirs) && !isEnd(ours)));
   }
   const last = b.slice(0, to).findLastIndex((line) => !isMark(line));
   if (!b.slice(last + 1, to).includes(`${step} ends ${what} ${whom}`)) return false;
