@@ -1,6 +1,5 @@
 // The installed package in bundles: by esbuild and rollup, as Debian has them, in each form, for old and new platforms; run in Node, and some in headless
 // Chromium.
-import { execFileSync } from 'node:child_process';
 import { mkdirSync, readFileSync, statSync, writeFileSync } from 'node:fs';
 import { join } from 'node:path';
 import { gzipSync } from 'node:zlib';
@@ -20,11 +19,12 @@ if (!(dependency.made instanceof Subject) || dependency.Subject !== Subject) thr
 const SAID = '[3,"released"]';
 const FORMS = {
   'esm': ['--format=esm'], 'iife': ['--format=iife'], 'cjs': ['--format=cjs'], 'esm for es2017': ['--format=esm', '--target=es2017'], 'iife for es2021': ['--format=iife', '--target=es2021'],
-  'esm without async, as Angular asks for': ['--format=esm', '--supported:async-await=false'], 'cjs for Node': ['--format=cjs', '--platform=node'], 'esm, minified': ['--format=esm', '--minify'],
+  'esm without async, as Angular asks for': ['--format=esm', '--supported:async-await=false'], 'iife for es2017': ['--format=iife', '--target=es2017'], 'cjs for Node': ['--format=cjs', '--platform=node'], 'esm, minified': ['--format=esm', '--minify'],
 };
 
-/** Bundles it in each way, in the folder where it is installed, and runs what was made. */
-export async function bundles(home, run, is) {
+/** Bundles it in each way, in the folder where it is installed, and runs what was made: in these Nodes, and in Chromium. */
+export async function bundles(home, run, is, nodes = ['node']) {
+  const runs = (what, to) => { for (const node of nodes) is(`${what}${node === 'node' ? '' : `, in ${node}`}`, run([node, to], home), SAID); };
   mkdirSync(join(home, 'out'));
   writeFileSync(join(home, 'dependency.cjs'), "const { Subject } = require('cellarcliff');\nexports.dependency = { Subject, made: new Subject() };\n");
   const pages = [];
@@ -34,8 +34,8 @@ export async function bundles(home, run, is) {
     for (const [form, words] of Object.entries(FORMS)) {
       const to = `out/${name} ${form}.${words.includes('--format=esm') ? 'mjs' : 'cjs'}`.replaceAll(' ', '-');
       run(['esbuild', from, '--bundle', '--platform=browser', '--log-level=error', ...words, `--outfile=${to}`], home);
-      is(`esbuild, ${form}: ${name}`, run(['node', to], home), SAID);
-      if (['esm', 'iife for es2021'].includes(form)) pages.push([to, words.includes('--format=esm')]);
+      runs(`esbuild, ${form}: ${name}`, to);
+      if (!words.includes('--format=cjs')) pages.push([to, words.includes('--format=esm')]);
       if (form.includes('minified')) console.log(`  ${statSync(join(home, to)).size} bytes, ${gzipSync(readFileSync(join(home, to)), { level: 9 }).length} by gzip`);
     }
   }
@@ -43,17 +43,36 @@ export async function bundles(home, run, is) {
   writeFileSync(join(home, 'by-path.mjs'), PROGRAMS['what it needs'].replace("'cellarcliff'", "'./node_modules/cellarcliff/dist/inlined/index.mjs'"));
   for (const [format, kind] of [['es', 'mjs'], ['iife', 'cjs'], ['cjs', 'cjs']]) {
     run(['rollup', 'by-path.mjs', '--silent', '--format', format, '--file', `out/rollup-${format}.${kind}`], home);
-    is(`rollup, ${format}`, run(['node', `out/rollup-${format}.${kind}`], home), SAID);
+    runs(`rollup, ${format}`, `out/rollup-${format}.${kind}`);
+    if (format !== 'cjs') pages.push([`out/rollup-${format}.${kind}`, format === 'es']);
   }
-  for (const [it, is_module] of pages) {
-    const also = (request, response, path) => {
-      if (path !== '/bundle.html') return false;
-      response.writeHead(200, { 'content-type': 'text/html' });
-      response.end(`<!doctype html><script>const said = []; console.log = (it) => said.push(it); onerror = (it) => said.push(String(it));</script><script${is_module ? ' type="module"' : ''}>${
-        readFileSync(join(home, it), 'utf8').replaceAll('</script', '<\\/script')}</script><script type="module">fetch('/report', { method: 'POST', body: JSON.stringify({ said }) })</script>`);
-      return true;
-    };
-    is(`in Chromium: ${it.slice(4)}`, String((await inChromium('bundle.html', { also, seconds: 60 })).said?.[0]), SAID);
+  await inPages(home, is, pages);
+  for (const node of nodes) {
+    is(`required under the condition browser, in ${node}`, run([node, '--conditions=browser', '-e', "const { of } = require('cellarcliff'); of(1).subscribe(console.log)"], home), '1');
   }
-  is('required under the condition browser, as jest with jsdom does', execFileSync('node', ['--conditions=browser', '-e', "const { of } = require('cellarcliff'); of(1).subscribe(console.log)"], { cwd: home, encoding: 'utf8' }), '1');
+}
+
+/** Each bundle in a frame of its own of one page. */
+async function inPages(home, is, all) {
+  const frame = (i) => `<!doctype html><script>const said = []; console.log = (it) => said.push(it); onerror = (it) => said.push(String(it));</script>
+    <script${all[i][1] ? ' type="module"' : ''} src="/bundle/${i}"></script><script type="module">parent.postMessage([${i}, said]);</script>`;
+  const page = `<!doctype html><script type="module">
+    const all = [];
+    onmessage = ({ data: [i, said] }) => { all[i] = said; if (++i === ${all.length}) fetch('/report', { method: 'POST', body: JSON.stringify(all) }); else next(i); };
+    const next = (i) => document.body.append(Object.assign(document.createElement('iframe'), { src: '/frame/' + i }));
+    next(0);
+  </script>`;
+  const send = (response, kind, body) => {
+    response.writeHead(200, { 'content-type': kind });
+    response.end(body);
+    return true;
+  };
+  const also = (request, response, path) => {
+    const [, what, i] = path.split('/');
+    if (what === 'bundles.html') return send(response, 'text/html', page);
+    if (what === 'frame') return send(response, 'text/html', frame(i));
+    return what === 'bundle' && send(response, 'text/javascript', readFileSync(join(home, all[i][0])));
+  };
+  const said = await inChromium('bundles.html', { also, seconds: 240 });
+  all.forEach(([it], i) => is(`in Chromium: ${it.slice(4)}`, String(said[i]?.[0]), SAID));
 }
