@@ -97,7 +97,16 @@ def zipped(*sources):
 
 def delayed(tell):
     """delay_with_mapper() tells an item once, whatever its delay tells."""
-    return lambda mapper, _=None: tell(lambda value: mapper(value).pipe(ops.take(1), ops.ignore_elements()))
+    def delay_with_mapper(mapper, other=None):
+        if other is not None:
+            return tell(mapper, other)
+        return tell(lambda value: mapper(value).pipe(ops.take(1), ops.ignore_elements()))
+    return delay_with_mapper
+
+
+def delay_subscription(_):
+    """delay_subscription() tells at once, whatever scheduler it was subscribed to with."""
+    return lambda duetime, scheduler=None: lambda source: rx.timer(duetime, scheduler=scheduler).pipe(ops.flat_map(lambda _: source))
 
 
 # who is handed the scheduler of a subscription
@@ -119,7 +128,7 @@ def hands_on(tell):
 class Hub(ConnectableObservable):
     """publish(), which remembers no end: who comes behind that waits for the next connection."""
 
-    asker = types.SimpleNamespace(is_stopped=False, is_past=False, by=None, inner=None, goes_on=None, exchanges=False, is_node=False, is_composition=False)
+    asker = types.SimpleNamespace(is_stopped=False, is_past=False, outlives=False, by=None, inner=None, goes_on=None, exchanges=False, is_node=False, is_composition=False)
 
     def __init__(self, source):
         super().__init__(source, Subject())
@@ -186,7 +195,7 @@ def connected(connect):
 class Asked(AutoDetachObserver):
     """A subscription, which knows for whose it was made: `asking` is that whose operator is at work."""
 
-    asking = of = None
+    asking, of, outlives = None, None, False
 
     def __init__(self, on_next=None, on_error=None, on_completed=None):
         super().__init__(on_next, on_error, on_completed)
@@ -207,13 +216,12 @@ class Asked(AutoDetachObserver):
 
     @property
     def is_past(self):
-        """Whether it has ended, or one above."""
-        it = self
+        """Whether it has ended, or one above. A window outlives the end of those with which it was told, so there the last one counts."""
+        it, found, outlives = self, False, False
         while it is not None:
-            if it.is_stopped:
-                return True
+            last, found, outlives = it, found or it.is_stopped, outlives or it.outlives
             it = it.by
-        return False
+        return last.is_stopped if outlives else found
 
 
 Asked.of = Asked
@@ -233,7 +241,8 @@ def asked(by, call):
 def subscribe_asked(self, on_next=None, on_error=None, on_completed=None, scheduler=None):
     """Nothing is opened after the end: what subscribes for one who has ended is given nothing."""
     it = Asked.of(on_next, on_error, on_completed)
-    if it.is_past:
+    it.outlives = getattr(self, "outlives", False)
+    if it.by is not None and it.by.is_past:
         return Disposable()
     it.is_composition, it.goes_on = getattr(self, "is_composition", False), getattr(self, "goes_on", None)
     it.exchanges, it.is_node = getattr(self, "exchanges", False), getattr(self, "is_node", False)
@@ -268,7 +277,7 @@ def connected_for_all(connect):
 class Connection:
     """For whom the source of a connectable is subscribed to: for no observer, in a lane of its own."""
 
-    is_stopped = is_past = exchanges = is_node = is_composition = False
+    is_stopped = is_past = outlives = exchanges = is_node = is_composition = False
     by, goes_on = None, "connection"
 
     def __init__(self):
@@ -383,7 +392,10 @@ class InLane(Asked):
 
     def on_next(self, value):
         is_open = not self.is_stopped
-        self.told(lambda: self.tells_left(value) if is_open and self.is_stopped else super(InLane, self).on_next(value))
+        if self.outlives and self.is_composition:
+            super().on_next(value)  # a window keeps what it is told till it is subscribed to
+        else:
+            self.told(lambda: self.tells_left(value) if is_open and self.is_stopped else super(InLane, self).on_next(value))
 
     def tells_left(self, value):
         """Tells what stood in the lane before the inner observable that it came of was exchanged."""
@@ -551,11 +563,6 @@ def done_for_nobody(do):
     return lambda self, *of: asked(None, do)(self, *of)
 
 
-def merged(_):
-    """merge() subscribes to all at once."""
-    return lambda *sources: rx.from_iterable(sources, scheduler=ImmediateScheduler.singleton()).pipe(ops.merge_all())
-
-
 def by_order(_):
     """The least and the greatest of whatever has an order."""
     return lambda one, other: (one > other) - (one < other)
@@ -565,13 +572,15 @@ NOTHING_BEHIND_THE_END = [
     (Observable, "subscribe_", lambda _: subscribe_asked), (ScheduledItem, "__init__", scheduled), (ImmediateScheduler, "schedule", scheduled_at_once),
     (World, "do", done_for_nobody),
     (ConnectableObservable, "connect", connected_for_all), (Hub, "connect", connected_for_all), ("core.operators.amb", "_amb", other_of_amb)]
+PARTED = "window._window window._window_when window._window_toggle windowwithcount._window_with_count windowwithtime._window_with_time " \
+         "windowwithtimeorcount._window_with_time_or_count groupby._group_by groupbyuntil._group_by_until"
+NOTHING_BEHIND_THE_END += [(f"core.operators.{it.split('.')[0]}", it.split(".")[1], marked("outlives")) for it in PARTED.split()]
 #: Where operators stand that have subscriptions of their own.
 COMPOSED = {
     "core.observable": "amb._amb zip._zip combinelatest._combine_latest withlatestfrom._with_latest_from forkjoin._fork_join catch._catch_with_iterable "
                        "onerrorresumenext._on_error_resume_next",
-    "core.operators": "amb._amb window._window window._window_when window._window_toggle windowwithcount._window_with_count windowwithtime._window_with_time "
-                      "windowwithtimeorcount._window_with_time_or_count buffer._buffer buffer._buffer_when buffer._buffer_toggle buffer._buffer_with_count "
-                      "bufferwithtime._buffer_with_time bufferwithtimeorcount._buffer_with_time_or_count groupby._group_by groupbyuntil._group_by_until "
+    "core.operators": f"amb._amb {PARTED} buffer._buffer buffer._buffer_when buffer._buffer_toggle buffer._buffer_with_count "
+                      "bufferwithtime._buffer_with_time bufferwithtimeorcount._buffer_with_time_or_count "
                       "catch._catch retry._retry debounce._debounce debounce._throttle_with_mapper throttlefirst._throttle_first delay._delay "
                       "delaysubscription._delay_subscription delaywithmapper._delay_with_mapper timeout._timeout timeoutwithmapper._timeout_with_mapper "
                       "observeon._observe_on subscribeon._subscribe_on takewithtime._take_with_time skipwithtime._skip_with_time "
@@ -603,6 +612,7 @@ ROWS = [
     ("the least and the greatest by their order", "min max min_by max_by", [
         (f"core.operators.{it}", "default_sub_comparer", by_order) for it in ("minby", "maxby")]),
     ("delay_with_mapper tells an item once", "delay_with_mapper", [("core.operators.delaywithmapper", "_delay_with_mapper", delayed)]),
+    ("delay_subscription tells at once", "delay_subscription", [("core.operators.delaysubscription", "_delay_subscription", delay_subscription)]),
     ("a replay tells at once", "replay replay_counted replay_of ReplaySubject", [("subject.replaysubject", "CurrentThreadScheduler", lambda _: ImmediateScheduler)]),
     ("time_interval hands the subscription's scheduler on", "time_interval", [("core.operators.timeinterval", "_time_interval", hands_on)]),
     ("take_until and pairwise do too", "take_until take_until_never pairwise", [(f"core.operators.{it}", f"_{name}", hands_on) for it, name in (("takeuntil", "take_until"), ("pairwise", "pairwise"))]),
@@ -612,7 +622,6 @@ ROWS = [
     ("a share, or what is published, has no end that it remembers", "share share_of publish_of publish_counted partition", [
         ("core.operators.publish", "_publish", published), ("core.operators.connectable.refcount", "_ref_count", counted)]),
     ("what has ended is connected for nobody", "replay_counted multicast_counted publish_value_counted", [(ConnectableObservable, "connect", connected)]),
-    ("merge subscribes to all at once", "merge merge_of lasting publish replay", [("core.observable.merge", "_merge", merged)]),
     ("subscribe_on disposes at once", "subscribe_on", [("core.operators.subscribeon", "ScheduledDisposable", lambda _: lambda _, it: it)]),
     ("a composition tells behind what stands in its lane, and its end behind a release", None, IN_LANES),
 ]
