@@ -128,7 +128,7 @@ def hands_on(tell):
 class Hub(ConnectableObservable):
     """publish(), which remembers no end: who comes behind that waits for the next connection."""
 
-    asker = types.SimpleNamespace(is_stopped=False, is_past=False, outlives=False, by=None, inner=None, goes_on=None, exchanges=False, is_node=False, is_composition=False)
+    asker = types.SimpleNamespace(is_stopped=False, is_past=False, outlives=False, has_ended=False, by=None, inner=None, goes_on=None, exchanges=False, is_node=False, is_composition=False)
 
     def __init__(self, source):
         super().__init__(source, Subject())
@@ -195,7 +195,7 @@ def connected(connect):
 class Asked(AutoDetachObserver):
     """A subscription, which knows for whose it was made: `asking` is that whose operator is at work."""
 
-    asking, of, outlives = None, None, False
+    asking, of, outlives, has_ended = None, None, False, False
 
     def __init__(self, on_next=None, on_error=None, on_completed=None):
         super().__init__(on_next, on_error, on_completed)
@@ -208,20 +208,23 @@ class Asked(AutoDetachObserver):
 
     def on_error(self, error):
         if not self.is_past:
+            self.has_ended = True
             super().on_error(error)
 
     def on_completed(self):
         if not self.is_past:
+            self.has_ended = True
             super().on_completed()
 
     @property
     def is_past(self):
         """Whether it has ended, or one above. A window outlives the end of those with which it was told, so there the last one counts."""
-        it, found, outlives = self, False, False
+        it, is_stopped, is_left, outlives = self, False, False, False
         while it is not None:
-            last, found, outlives = it, found or it.is_stopped, outlives or it.outlives
+            last, outlives = it, outlives or it.outlives
+            is_stopped, is_left = is_stopped or it.is_stopped, is_left or it.is_stopped and not it.has_ended
             it = it.by
-        return last.is_stopped if outlives else found
+        return is_left or last.is_stopped if outlives else is_stopped
 
 
 Asked.of = Asked
@@ -277,7 +280,7 @@ def connected_for_all(connect):
 class Connection:
     """For whom the source of a connectable is subscribed to: for no observer, in a lane of its own."""
 
-    is_stopped = is_past = outlives = exchanges = is_node = is_composition = False
+    is_stopped = is_past = outlives = has_ended = exchanges = is_node = is_composition = False
     by, goes_on = None, "connection"
 
     def __init__(self):
