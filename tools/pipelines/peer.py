@@ -218,13 +218,15 @@ class Asked(AutoDetachObserver):
 
     @property
     def is_past(self):
-        """Whether it has ended, or one above. A window outlives the end of those with which it was told, so there the last one counts."""
-        it, is_stopped, is_left, outlives = self, False, False, False
+        """Whether it has ended, or one above. A window outlives the end of those with which it was told: they are neighbours, and nobody left them."""
+        it, run, outlives = self, False, False
         while it is not None:
-            last, outlives = it, outlives or it.outlives
-            is_stopped, is_left = is_stopped or it.is_stopped, is_left or it.is_stopped and not it.has_ended
+            outlives = it.outlives or run and outlives
+            if it.is_stopped and not it.has_ended or run and not it.is_stopped and not outlives:
+                return True
+            run, outlives = it.is_stopped, outlives and it.is_stopped
             it = it.by
-        return is_left or last.is_stopped if outlives else is_stopped
+        return run
 
 
 Asked.of = Asked
