@@ -46,8 +46,8 @@ class Late(BaseException):
     pass
 
 
-def come_to(program, package, run=programs.run):
-    """What a program comes to over this package."""
+def come_to(program, package, run=programs.run, exceeded=0):
+    """What a program comes to over this package; each bound that it reaches exceeded, where that is planted."""
     from .world import World
     if package == OURS:
         gc.collect()
@@ -56,6 +56,7 @@ def come_to(program, package, run=programs.run):
     else:
         gc.set_threshold(700, 10, 10)
     world = World(package)
+    world.exceeded = exceeded
     signal.setitimer(signal.ITIMER_VIRTUAL, SECONDS)
     try:
         run(program, world)
@@ -91,11 +92,14 @@ class Trial:
             return None if found["is_long"] else found
         return ask
 
-    def judged(self, program, seed=0, run=programs.run):
+    def judged(self, program, seed=1, run=programs.run):
         """What it comes to, what is wrong, and the rows by which it differs from RxPY."""
         ours = come_to(program, OURS, run)
         wrong, rows = list(ours["found"]), []
         self.counts["words"].update(programs.forms(program))
+        is_planted = seed % PLANTED == 0 and not wrong
+        if is_planted and ours["reached"].get("a bound reached") and len(program["steps"]) == 1:
+            self.plant_bound(program, run)
         self.counts["reached"].update(ours["reached"])
         if self.with_rxpy and program["manner"] == "beside" and not ours["is_long"]:
             from .peer import rows_of, tells_at_once
@@ -107,10 +111,16 @@ class Trial:
                 if what:
                     rows = known.that_hold(ours)
                     wrong += [] if rows else [f"RxPY differs: {what}"]
-                elif seed % PLANTED == 0:
+                elif is_planted:
                     self.plant(known, ours)
         self.counts["excused"].update(rows)
         return ours, wrong, rows
+
+    def plant_bound(self, program, run):
+        """Whether it is seen that a bound which is reached is exceeded by one."""
+        self.counts["planted"]["bound exceeded"] += 1
+        if not come_to(program, OURS, run, 1)["found"]:
+            self.counts["let pass"]["bound exceeded"] += 1
 
     def plant(self, known, ours):
         """Which rows let pass a fault that is planted where both tell the same."""

@@ -137,6 +137,7 @@ class World:
         self.counts, self.subscriptions, self.reached = collections.Counter(), {}, collections.Counter()
         self.emitted, self.depth, self.is_spoiled, self.is_ordered, self.many_threads = [], threading.local(), False, True, 1
         self.lock, self.notes, self.is_calm = threading.RLock(), 0, False
+        self.exceeded = 0  # by how much each bound is, where that is planted
         self.at = 0  # which step is under way: those that begin are less than 0
         self.kept, self.is_collected = set(), False  # whose subscriptions are not dropped; whether nothing stays where all is dropped
         if self.is_ours:
@@ -193,7 +194,7 @@ class World:
 
         def gate(source):
             def begin(_):
-                it = Gate(self, most)
+                it = Gate(self, most - self.exceeded)
                 return source.pipe(*operate(lambda k, make: self.opens(k, lambda *_: rx.using(it.enter, lambda _: make()))))
             return rx.defer(begin)
         return gate
