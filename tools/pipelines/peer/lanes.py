@@ -102,10 +102,7 @@ class InLane(Asked):
 
     def on_next(self, value):
         is_open = not self.is_stopped
-        if self.outlives and self.is_composition:
-            super().on_next(value)  # a window keeps what it is told till it is subscribed to
-        else:
-            self.told(lambda: self.tells_left(value) if is_open and self.is_stopped else super(InLane, self).on_next(value))
+        self.told(lambda: self.tells_left(value) if is_open and self.is_stopped else super(InLane, self).on_next(value))
 
     def tells_left(self, value):
         """Tells what stood in the lane before the inner observable that it came of was exchanged."""
@@ -157,6 +154,36 @@ class InLane(Asked):
             InLane.ending = before
         for it in self.behind:
             it()
+
+
+class Part(Subject):
+    """A window, or a group, which keeps what it is told till it is subscribed to."""
+
+    def __init__(self):
+        super().__init__()
+        self.kept = []
+
+    def keeps(self, tell, *note):
+        if self.kept is None:
+            tell(*note)
+        else:
+            self.kept.append((tell, *note))
+
+    def on_next(self, value):
+        self.keeps(super().on_next, value)
+
+    def on_error(self, error):
+        self.keeps(super().on_error, error)
+
+    def on_completed(self):
+        self.keeps(super().on_completed)
+
+    def _subscribe_core(self, observer, scheduler=None):
+        found = super()._subscribe_core(observer, scheduler)
+        kept, self.kept = self.kept, None
+        for tell, *note in kept or ():
+            tell(*note)
+        return found
 
 
 def told_to_all(tell):
@@ -271,6 +298,7 @@ def bounded(make):
 
 IN_LANES = [
     *NOTHING_BEHIND_THE_END, ("core.operators.publish", "_publish", published), ("core.operators.connectable.refcount", "_ref_count", counted), (Asked, "of", lambda _: InLane),
+    *[(f"core.operators.{it}", "Subject", lambda _: Part) for it in ("window", "windowwithcount", "windowwithtime", "windowwithtimeorcount", "groupbyuntil", "groupjoin")],
     *[(Subject, f"on_{it}", told_to_all) for it in ("next", "error", "completed")], ("core.operators.merge", "_merge", bounded),
     *[(f"core.{it}", name, marked("is_node")) for it, name in (
         ("observable.using", "_using"), ("observable.defer", "_defer"), ("operators.merge", "_merge_all"), ("operators.switchlatest", "_switch_latest"),
