@@ -352,7 +352,7 @@ class Sums:
         self.first_of, self.kinds = {}, collections.Counter()
         self.counts = collections.defaultdict(collections.Counter)
         self.forms, self.manners = collections.Counter(), collections.Counter()
-        self.seeds = (it for it in itertools.count(words.first) if words.manner in (None, manner_of(it)))
+        self.seeds = (it for it in itertools.count(words.first) if not words.manner or manner_of(it) in words.manner.split(","))
         self.left = words.count
 
     def next(self):
