@@ -1,13 +1,13 @@
 // What is left out of the engine's history, roots that need no engine and items that are only heard, changes nothing else: random programs with all of it
 // left out, and again with all of it given to the engine. All that happens, in its order, and what is open and held, is the same.
 //
-// Usage: node left-out.mjs [MANY] [SEED] [--busy] [--lists]; --lists: each program merges lists and others, and something is done from within
+// Usage: node left-out.mjs [MANY] [SEED] [--busy]
 import * as rx from '../index.mjs';
 import * as ops from '../operators.mjs';
 import { drawn, drawing } from './random/drawing.mjs';
 import { Run } from './random/running.mjs';
 
-const words = process.argv.slice(2), [is_busy, is_of_lists] = ['--busy', '--lists'].map((it) => words.includes(it)), [many = 10000, first = 1] = words.filter((it) => !it.startsWith('--')).map(Number);
+const words = process.argv.slice(2), is_busy = words.includes('--busy'), [many = 10000, first = 1] = words.filter((it) => it !== '--busy').map(Number);
 const { engine } = globalThis[Symbol.for('cellarcliff.realm.1')], { isRoomy, isCalm } = engine, told = { roots: 0, items: 0 };
 const counted = (call, name) => (...of) => {
   const is = call.apply(engine, of);
@@ -17,21 +17,11 @@ const counted = (call, name) => (...of) => {
 
 /** The program of a seed; in three of four it is shared, or has a resource, or both, and in half three observers hear it. */
 function program(seed) {
-  const it = drawn(seed, is_busy || is_of_lists), d = drawing(seed ^ 0x5a5a5a), kind = d.below(4), { operators } = it.whole;
-  if (is_of_lists) merges(it, d);
+  const it = drawn(seed, is_busy), d = drawing(seed ^ 0x5a5a5a), kind = d.below(4), { operators } = it.whole;
   if (kind === 1 || kind === 3) operators.splice(d.below(operators.length + 1), 0, ['finalize of a resource', 99]);
   if (kind >= 2) operators.splice(d.below(operators.length + 1), 0, ['share']);
   if (d.chance(0.5)) it.steps.splice(1, 0, ['subscribe', 'y'], ['subscribe', 'z']);
   return it;
-}
-/** Merges lists and others. */
-function merges(it, d) {
-  const list = () => ({ source: ['of', d.below(4), d.below(4), d.below(4)], operators: [] });
-  const other = () => ({ source: d.one([['hot', d.below(6)], ['cold', 97, [1, 2], 1], ['at once', 96, [1, 2], d.below(3)], ['EMPTY'], ['throwError'], ['of', 1, 2, 3]]), operators: [] });
-  const name = d.one(['mergeMap', 'mergeMap', 'concatMap', 'mergeAll', 'concatAll', 'exhaustMap', 'mergeScan']);
-  const flat = [name, [d.chance(0.1), list(), d.chance(0.5) ? list() : other()], d.below(4)], { operators } = it.whole;
-  operators.splice(0, operators.length, flat, ...operators.slice(-1).filter(() => d.chance(0.3)));
-  it.steps = it.steps.map((step) => (step[0] === 'next' && d.chance(0.7) ? ['next', it.whole.source[1], step[2]] : step));
 }
 function all(seed, leaves_out) {
   engine.isRoomy = leaves_out ? counted(isRoomy, 'roots') : () => false;

@@ -6,7 +6,6 @@ import { enters, lones } from './lone.mjs';
 /** How many nodes and resources are open, and how many came and went. */
 export const counts = () => {
   const totals = realm.engine.totals();
-  totals.nodes -= realm.engine.relaying; // beside what was asked for
   for (const it of lones.all()) {
     totals.nodes++;
     if (it.hears._finalizers === null) continue;

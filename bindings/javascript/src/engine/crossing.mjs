@@ -38,7 +38,6 @@ export class Crossing {
   #lingering = null; #lastHears = null; // what told the last item, to which observer, where its source may have more of the same go
   dead = null; // why no command can be made any more
   tracing = false;
-  relaying = 0; // how many leaves tell what several inner observables do
   line = null; // where the program's own line subscribes, until a command is given
 
   constructor(wasm, glue, realm) {
@@ -466,7 +465,6 @@ export class Crossing {
 
   #drop(word, thing) {
     if (--thing.owed !== 0) return;
-    if (thing.is_relay) this.relaying--;
     this.#things.free(word);
     this.#things.leaves(thing);
   }
@@ -474,11 +472,6 @@ export class Crossing {
   /** A tree that nobody can hear, and that holds nothing of the program's, is left. */
   forgets(root) {
     if (this.dead === null) try { this.#ends(DISPOSE, root); } catch (error) { this.report(error); }
-  }
-  /** This leaf tells what several inner observables do, and nobody asked for it. */
-  relays(leaf) {
-    leaf.is_relay = true;
-    this.relaying++;
   }
   /** A tag holds something else than it did. */
   changes(tag) { this.#things.anew(tag); }

@@ -15,7 +15,6 @@ class Loose {
     this.word = word;
     this.things = things;
     this.rest = it.owed;
-    this.is_relay = it.is_relay === true;
     this.times = 0; // how often it was kept again
     this.slot = it.slot, this.top = it.top, this.lo = it.lo, this.hi = it.hi;
   }

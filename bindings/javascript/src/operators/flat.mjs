@@ -1,68 +1,23 @@
 // FlatMap and Switch of the engine: an observable for each item, so many at a time, or the latest alone.
 import { FLAT, INNER, SOURCE, SWITCH } from '../engine/codes.mjs';
 import { realm } from '../engine/realm.mjs';
-import { TERMINAL, failing } from '../core/leaf.mjs';
-import { MERGED, Place, failAt, linked, openAt, openLeaf, openNode, openPass, settled, unopenedAt } from '../core/place.mjs';
+import { TERMINAL } from '../core/leaf.mjs';
+import { MERGED, Place, failAt, linked, openAt, openNode, openPass, settled } from '../core/place.mjs';
 import { operator } from '../core/operator.mjs';
-import { isBare, isLeaf, isSilent } from '../core/subject.mjs';
+import { isLeaf, isSilent } from '../core/subject.mjs';
 import { identity, isFunction } from '../core/util.mjs';
-import { innerFrom, listOf, tellsList } from '../sources/from.mjs';
+import { innerFrom } from '../sources/from.mjs';
 import { map } from './items.mjs';
-
-/** One inner leaf for all lists that are projected to a node, as long as its source has more: what a list tells is told there, and its projection is
- *  declined. So a list costs no node. */
-class Relay {
-  #leaf; #thing; #telling = 0; #is_last = false;
-  constructor({ _above, _way, _inner }) {
-    this.#thing = _above;
-    this.#leaf = openLeaf(new Place(INNER, _above, null, _way, null, _inner));
-    if (this.isOpen()) realm.engine.relays(this.#leaf);
-  }
-  isOpen() { return this.#leaf !== null && !this.#leaf.closed; }
-  tells(list, is_first) {
-    const leaf = this.#leaf;
-    this.#telling++;
-    try { tellsList(list, leaf); } catch (error) { failing(leaf, error); }
-    this.#telling--;
-    if (!is_first && !leaf.closed) realm.engine.surely(() => realm.engine.decline(this.#thing));
-    this.#ends();
-  }
-  /** The source has no more. */
-  isLast() {
-    this.#is_last = true;
-    this.#ends();
-  }
-  #ends() {
-    const leaf = this.#leaf;
-    if (this.#is_last && this.#telling === 0 && !leaf.isStopped) realm.engine.surely(() => leaf.complete());
-  }
-}
 
 /** What a node that projects is for: it opens an observable for each item. */
 class Projects {
   index = 0;
-  relay = null; // where lists are told, if there is such a place
-  is_last = true; // whether there is none, as its source has no more, or it is no root
   is_over = false; // it has closed: then it is asked for no projection more
   constructor(call, way) {
     this.call = call;
     this.way = way;
   }
-  opened(thing, inner) {
-    this.place = new Place(INNER, thing, null, this.way, null, this.innerOf(inner));
-  }
-  /** Lists may be told by one leaf: of a root whose source holds nothing that is to be released behind the end, and of which no history is wanted. */
-  relays(thing, source) { this.is_last = thing.hears === null || !isBare(source) || !realm.engine.isRoomy(); }
-  /** The source has no more. */
-  left() {
-    this.is_last = true;
-    if (this.relay !== null) this.relay.isLast();
-  }
-  tellsList(list) {
-    const is_first = this.relay === null;
-    if (is_first) try { this.relay = new Relay(this.place); } catch (error) { return unopenedAt(this.place, error); }
-    if (this.relay.isOpen()) this.relay.tells(list, is_first);
-  }
+  opened(thing, inner) { this.place = new Place(INNER, thing, null, this.way, null, this.innerOf(inner)); }
   /** What is released before an end within it is counted: all up to here. */
   innerOf() { return MERGED; }
 
@@ -71,8 +26,7 @@ class Projects {
     let inner;
     try { inner = innerFrom(this.call(value, this.index++)); } catch (error) { return realm.engine.fail(thing, error); }
     if (!isSilent(inner)) realm.engine.letGo();
-    const list = this.is_last ? undefined : listOf(inner);
-    if (list === undefined) openAt(inner, this.place); else this.tellsList(list);
+    openAt(inner, this.place);
   }
   project(thing, value) { this.start(thing, value); }
   shut() { this.is_over = true; }
@@ -83,7 +37,6 @@ class Projects {
 class Switches extends Projects {
   is_leaf = true; // whether the latest is a leaf alone, if there is one
   latest = null; // the leaf then
-  relays() {}
   innerOf(inner) { return inner; }
   start(thing, value) {
     let at = this.place, inner;
@@ -112,15 +65,10 @@ class Bounded extends Projects {
     this.bound = bound;
   }
   opened(thing, inner) {
-    this.place = new Place(INNER, thing, null, this.way, () => this.leaves(thing), this.innerOf(inner));
-  }
-  leaves(thing) {
-    this.active--;
-    if (this.waiting.length && !this.is_over) realm.engine.surely(() => realm.engine.put(thing, () => this.goOn(thing)));
-  }
-  tellsList(list) {
-    super.tellsList(list);
-    this.leaves(this.place._above);
+    this.place = new Place(INNER, thing, null, this.way, () => {
+      this.active--;
+      if (this.waiting.length && !this.is_over) realm.engine.surely(() => realm.engine.put(thing, () => this.goOn(thing)));
+    }, this.innerOf(inner));
   }
   project(thing, value) {
     if (this.active < this.bound) this.start(thing, value);
@@ -159,8 +107,7 @@ const projecting = (kind, make) => operator((at, source) => {
   if (thing === null) return;
   const inner = place._inner && MERGED; // an end here need not be one above
   body.opened(thing, inner);
-  body.relays(thing, source);
-  openAt(source, new Place(SOURCE, thing, null, TERMINAL, body.is_last ? null : () => body.left(), inner));
+  openAt(source, new Place(SOURCE, thing, null, TERMINAL, null, inner));
 });
 
 const selecting = (project, resultSelector) => (a, i) => map((b, ii) => resultSelector(a, b, i, ii))(innerFrom(project(a, i)));

@@ -44,18 +44,11 @@ function tellsAll(list, subscriber) {
   for (let i = 0; i < list.length && !subscriber.closed && !subscriber.isStopped; i++) subscriber.next(list[i]);
 }
 export function fromArray(list) {
-  const made = new Observable((subscriber) => {
-    tellsList(list, subscriber);
+  return new Observable((subscriber) => {
+    if (list.length > 1 && subscriber instanceof Leaf) subscriber.all(list); else tellsAll(list, subscriber);
     subscriber.complete();
   });
-  made._ofList = list;
-  return made;
 }
-export function tellsList(list, subscriber) {
-  if (list.length > 1 && subscriber instanceof Leaf) subscriber.all(list); else tellsAll(list, subscriber);
-}
-/** Its list, where it is an observable of a list and nothing else. */
-export const listOf = (it) => (it.operator || it.source ? undefined : it._ofList);
 const fromPromise = (promise) => new Observable((subscriber) => {
   promise.then((value) => {
     if (subscriber.closed) return;
