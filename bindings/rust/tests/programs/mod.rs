@@ -48,10 +48,12 @@ mod sync {
             world.check();
         }
         std::thread::scope(|scope| {
-            for thread in 0..it.threads {
+            let begin = |thread| {
                 let all = move || others.iter().skip(thread).step_by(it.threads).for_each(|act| world.top(act));
-                super::deep().spawn_scoped(scope, all).unwrap();
-            }
+                super::deep().spawn_scoped(scope, all).unwrap()
+            };
+            let all: Vec<_> = (0..it.threads).map(begin).collect();
+            all.into_iter().for_each(|it| it.join().unwrap()) // the C library may free the stack of one that is detached as it exits twice
         });
         world.check();
     }
@@ -172,10 +174,11 @@ pub fn run_all(seeds: std::ops::Range<u64>, room: u32, workers: usize) -> Result
     };
     let (stop, stopped) = std::sync::mpsc::channel();
     std::thread::scope(|scope| {
-        scope.spawn(|| watch(&at, stopped));
+        let watches = scope.spawn(|| watch(&at, stopped));
         let all: Vec<_> = at.iter().map(|at| deep().spawn_scoped(scope, || works(at)).unwrap()).collect();
         all.into_iter().for_each(|it| it.join().unwrap());
-        drop(stop)
+        drop(stop);
+        watches.join().unwrap()
     });
     match wrong.into_inner().unwrap() {
         Some(why) => Err(why),
