@@ -233,7 +233,8 @@ public final class Programs {
                 case MAP: return flowable(op.below[0]).map(this::mapped);
                 case FILTER: return flowable(op.below[0]).filter(v -> isIn(number, v));
                 case TAKE: return flowable(op.below[0]).take(1 + number);
-                default: return build(op).toFlowable(BackpressureStrategy.BUFFER);
+                default:  // RxJava's buffer takes items of one thread at a time; filled by four it is emptied without end
+                    return (program.manner == Manner.FOUR ? build(op).serialize() : build(op)).toFlowable(BackpressureStrategy.BUFFER);
             }
         }
 
