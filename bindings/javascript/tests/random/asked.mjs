@@ -9,3 +9,14 @@ export const hasWord = (it, holds) => (Array.isArray(it) ? (typeof it[0] === 'st
 export const isOfSeveral = (name) => /[oiO]/.test((OPERATORS[name] ?? SOURCES[name] ?? [''])[0]);
 /** Whether callbacks do something of these kinds. */
 export const acts = ({ within }, ...kinds) => within.some(({ act }) => kinds.includes(act[0]));
+/** Those lines that are said once nobody hears. */
+export function saidForNobody(lines) {
+  const hearing = new Set();
+  return lines.filter((line) => {
+    const [, who, what, whom] = wordsOf(line);
+    if (who === 'begins' && what === 'subscribe') hearing.add(whom);
+    if (who === 'begins' && what === 'unsubscribe') hearing.delete(whom);
+    if (isEnd(line)) hearing.delete(who);
+    return hearing.size === 0;
+  });
+}

@@ -32,7 +32,7 @@ export const FOLLOWED = /^(endWith|startWith|repeat|retry|bufferTime)/;
 const isAsButReleases = (a, b) => inOrderButReleases(a) === inOrderButReleases(b);
 /** Where releases, or what is made as something is released, may stand elsewhere. */
 export const ORDERS = {
-  'one end releases several observables in the order of the tree': ({ whole }, a, b) => hasWord(whole, (name) => isOfSeveral(name) || name === 'subscribeOn') && isAsButReleases(a, b),
+  'one end releases several observables in the order of the tree': ({ whole }, a, b) => hasWord(whole, (name) => isOfSeveral(name) || /^(subscribeOn|groupBy|window)/.test(name)) && isAsButReleases(a, b),
   'a source that ends, or is left, as it is subscribed to is torn down behind the tree': ({ whole, within }, a, b) =>
     (hasWord(whole, (name) => AT_ONCE.includes(name)) || within.some(({ where }) => where === 'make')) && isAsButReleases(a, b),
   'a notifier for a reset is subscribed to as who had subscribed is released': (it, a, b) =>

@@ -1,5 +1,5 @@
 // Where two runs of a program first differ in what a callback tells from within, and no other manner of RxJS says what the package comes to.
-import { acts, isEnd, stepOf, wordsOf } from './asked.mjs';
+import { acts, isEnd, saidForNobody, stepOf, wordsOf } from './asked.mjs';
 import { TELLS, isHeard, isMark, isRelease } from './running.mjs';
 
 export const PUT_OFF = 'what is told from within to one who is busy waits for that, and all that comes of it';
@@ -45,16 +45,5 @@ export function isPutOff(it, { lines: a }, { lines: b }) {
 /** How often that is said from there on, in whatever step. */
 const manyFrom = (lines, at, line) => lines.slice(at).filter((one) => wordsOf(one).slice(1).join() === wordsOf(line).slice(1).join()).length;
 /** Whether in the second a function is called once nobody hears, and in the first not as often. */
-function isCalledForNobody(a, b) {
-  const [theirs, ours] = [a, b].map((lines) => {
-    const hearing = new Set();
-    return lines.filter((line) => {
-      const [, who, what, whom] = wordsOf(line);
-      if (who === 'begins' && what === 'subscribe') hearing.add(whom);
-      if (who === 'begins' && what === 'unsubscribe') hearing.delete(whom);
-      if (isEnd(line)) hearing.delete(who);
-      return who === 'called' && hearing.size === 0;
-    }).length;
-  });
-  return ours > theirs;
-}
+const isCalledForNobody = (a, b) => callsOf(saidForNobody(b)) > callsOf(saidForNobody(a));
+const callsOf = (lines) => lines.filter((line) => wordsOf(line)[1] === 'called').length;
