@@ -393,6 +393,18 @@ def forms(program):
     return found
 
 
+def words_of(program, it):
+    """The words of an expression and of what it shares, and the kinds of its subjects."""
+    yield it[0]
+    if it[0] in ("subject", "lasting"):
+        yield program["subjects"][it[1] if it[0] == "subject" else 0]
+    if it[0] == "shared":
+        yield from words_of(program, program["shared"][it[1]])
+    for part in it[1:]:
+        if isinstance(part, list):
+            yield from words_of(program, part)
+
+
 # smaller
 
 def smaller(program):

@@ -102,8 +102,8 @@ class Trial:
             self.plant_bound(program, run)
         self.counts["reached"].update(ours["reached"])
         if self.with_rxpy and program["manner"] == "beside" and not ours["is_long"]:
-            from .peer import rows_of, tells_at_once
-            known = Rows(rows_of(program), self.over_rxpy(program, run), tells_at_once(program))
+            from .peer import rows_of, telling_at_once
+            known = Rows(rows_of(program), self.over_rxpy(program, run), telling_at_once(program))
             theirs = known.with_rows([])
             if theirs is not None:
                 self.counts["compared"]["RxPY"] += 1

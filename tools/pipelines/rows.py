@@ -44,8 +44,8 @@ def differs(ours, theirs):
 class Rows:
     """Of one program, those that hold: `ask` answers what RxPY comes to with those of the names that it is given."""
 
-    def __init__(self, names, ask, tells_at_once=False):
-        self.names, self.ask, self.tells_at_once, self.answers = names, ask, tells_at_once, {}
+    def __init__(self, names, ask, telling_at_once=frozenset()):
+        self.names, self.ask, self.telling_at_once, self.answers = names, ask, telling_at_once, {}
 
     def with_rows(self, names):
         names = tuple(names)
@@ -73,8 +73,10 @@ class Rows:
         return found
 
     def waits(self, ours):
-        """Whether something tells as it is subscribed to, and all is told but what stands on the wrong side of a release."""
-        return self.tells_at_once and any(it is not None and not differs(plain(ours), plain(it)) for it in self.answers.values())
+        """Whether all is told but what stands on the wrong side of a release, to observers of what tells as it is subscribed to."""
+        def differing(theirs):
+            return {int(name.split(":")[0]) for (name, heard), (_, other) in zip(ours["notes"], in_time(ours["notes"], theirs["notes"])) if heard != other}
+        return any(it is not None and not differs(plain(ours), plain(it)) and differing(it) <= self.telling_at_once for it in self.answers.values())
 
 
 def plain(one):

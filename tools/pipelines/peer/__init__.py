@@ -58,10 +58,13 @@ def rows_of(program):
     return [name for name, of, _ in ROWS if of is None or words & set(of.split())]
 
 
-def tells_at_once(program):
-    """Whether something of a program tells as it is subscribed to, whatever is at work."""
-    words = {*programs.forms(program), *program["subjects"]}
-    return bool(words & set("expand replay replay_counted replay_of publish_value publish_value_counted publish_value_of BehaviorSubject ReplaySubject".split()))
+#: What tells as it is subscribed to, whatever is at work.
+AT_ONCE = set("expand replay replay_counted replay_of publish_value publish_value_counted publish_value_of BehaviorSubject ReplaySubject".split())
+
+
+def telling_at_once(program):
+    """The pipelines with something that tells as it is subscribed to."""
+    return {i for i, it in enumerate(program["pipelines"]) if AT_ONCE & set(programs.words_of(program, it))}
 
 
 @contextlib.contextmanager
