@@ -58,8 +58,8 @@ def rows_of(program):
     return [name for name, of, _ in ROWS if of is None or words & set(of.split())]
 
 
-#: What tells as it is subscribed to, whatever is at work.
-AT_ONCE = set("expand replay replay_counted replay_of publish_value publish_value_counted publish_value_of BehaviorSubject ReplaySubject".split())
+#: What tells as it is subscribed to, whatever is at work, and operators that subscribe to another as they are at work.
+AT_ONCE = set("expand timeout timeout_with_mapper replay replay_counted replay_of publish_value publish_value_counted publish_value_of BehaviorSubject ReplaySubject".split())
 
 
 def telling_at_once(program):
