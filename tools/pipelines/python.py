@@ -286,10 +286,12 @@ class Judge:
         return found, rowed, counts, many
 
     def differs(self, seed, ours, slow):
-        """What the extension and ctypes tell otherwise, where there is one thread."""
+        """What the extension and ctypes tell otherwise, where there is one thread. What an interrupt left comes with the next call that reaches the
+        engine, which need not be the same for both."""
         if ours is None or slow is None or manner_of(seed).endswith("threads") or ours["is_long"] or slow["is_long"]:
             return None
-        what = next((it for it in ("notes", "raised", "made", "hooked", "held") if ours[it] != slow[it]), None)
+        keys = ["heard", "raised", "made", "hooked", *([] if ours["reached"].get("interrupts") else ["held"])]
+        what = next((it for it in keys if ours[it] != slow[it]), None)
         return f"ctypes differs: {what}" if what else None
 
     def judged(self, program):

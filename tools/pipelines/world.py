@@ -375,5 +375,6 @@ class World:
         """What is compared, and what was reached. The program has ended, and holds nothing any more."""
         if self.is_ours:
             self.close()
-        return {"notes": self.told, "raised": [it for it in self.raised if it[0] != "close"], "made": len(self.resources), "held": self.held,
+        heard = [[it.name, list(map(list, heard))] for it, heard in zip(self.observers, self.heard_before_the_end)]
+        return {"notes": self.told, "heard": heard, "raised": [it for it in self.raised if it[0] != "close"], "made": len(self.resources), "held": self.held,
                 "found": self.found, "hooked": sorted(self.hooked), "reached": dict(self.reached), "is_long": self.notes > LONGEST}
