@@ -61,7 +61,7 @@ OPERATORS = {
     "find_index": "ops.find_index(w.test({k}, lambda *_: True))", "all": "ops.all(w.test({k}))", "some": "ops.some(w.test({k}, lambda it: False))",
     "contains": "ops.contains({v})", "is_empty": "ops.is_empty()", "count": "ops.count()", "sum": "ops.sum()", "average": "ops.average()",
     "reduce": "ops.reduce(w.pair({k}))", "max": "ops.max()", "min": "ops.min()", "max_by": "ops.max_by(w.item({k}))", "min_by": "ops.min_by(w.item({k}))",
-    "to_list": "ops.to_list()", "to_iterable": "ops.to_iterable()", "to_set": "ops.map(w.text), ops.to_set()", "to_dict": "ops.to_dict(lambda it: str(it))",
+    "to_list": "ops.to_list()", "to_iterable": "ops.to_iterable()", "to_set": "ops.map(w.text), ops.to_set()", "to_dict": "ops.to_dict(w.text)",
     "take_last_buffer": "ops.take_last_buffer({n})", "pairwise": "ops.pairwise()", "distinct": "ops.distinct()", "distinct_until_changed": "ops.distinct_until_changed()",
     "ignore_elements": "ops.ignore_elements()", "take_while": "ops.take_while(w.times({k}, {n}))", "skip_while": "ops.skip_while(w.times({k}, {n}))",
     "take_while_indexed": "ops.take_while_indexed(w.test({k}, lambda _, i: i < 2))", "skip_while_indexed": "(lambda source: rx.defer(lambda _: source.pipe(ops.skip_while_indexed(w.test({k}, lambda _, i: i < 1)))))",
