@@ -540,7 +540,9 @@ static int hears(struct Mine *here, Leaf *leaf, uint8_t what, PyObject *value) {
     root->alone = NULL;
     Py_CLEAR(leaf->above);
   }
-  int status = what == CELLAR_NEXT ? root_tell(here, root, value) : root_ended(root, what == CELLAR_ERROR ? value : NULL);
+  int status = what == CELLAR_NEXT   ? root_tell(here, root, value)
+               : what == CELLAR_SHUT ? (root->is_over = root->is_stopped = 1, 0)
+                                     : root_ended(root, what == CELLAR_ERROR ? value : NULL);
   drop((PyObject *)root, status);
   return status;
 }
@@ -1160,8 +1162,19 @@ static PyObject *core_leaf(Core *self, PyObject *root) {
   put_first(leaf, &self->alone);
   return (PyObject *)leaf;
 }
-/* The root of one that is, or None. */
-static PyObject *core_first_alone(Core *self, void *Py_UNUSED(unused)) { return new_of(self->alone && self->generation == generation ? self->alone->above : Py_None); }
+/* Closes those that are, the oldest first, each behind what waits for it: that is heard, as of the engine. */
+static PyObject *core_shut_alone(Core *self, PyObject *Py_UNUSED(unused)) {
+  PyObject *all = PyList_New(0);
+  int status = all ? 0 : -1;
+  for (Leaf *it = self->generation == generation ? self->alone : NULL; it && !status; it = it->next) status = PyList_Append(all, (PyObject *)it);
+  if (!status) status = PyList_Reverse(all);
+  for (Py_ssize_t i = 0; !status && i < PyList_Size(all); i++) {
+    Leaf *leaf = (Leaf *)PyList_GetItem(all, i);
+    if (leaf->way & ALONE) status = note(here_is(), leaf, CELLAR_SHUT, Py_None);
+  }
+  if (all) drop(all, status);
+  return none_or_null(status);
+}
 /* Where the engine is, for the calls that ctypes makes on it as well: none is on the way of an item. */
 static PyObject *core_address(Core *self, void *Py_UNUSED(unused)) { return PyLong_FromVoidPtr(&self->engine); }
 static PyObject *core_new(PyTypeObject *type, PyObject *given, PyObject *Py_UNUSED(named)) {
@@ -1182,9 +1195,9 @@ static void core_dealloc(Core *self) {
 }
 static PyMethodDef core_methods[] = {
     {"open", FAST(core_open), METH_FASTCALL, NULL}, {"using", FAST(core_using), METH_FASTCALL, NULL}, {"hold", (PyCFunction)core_hold, METH_VARARGS, NULL},
-    {"share", FAST(core_share), METH_FASTCALL, NULL}, {"do", FAST(core_do), METH_FASTCALL, NULL}, 
+    {"share", FAST(core_share), METH_FASTCALL, NULL}, {"do", FAST(core_do), METH_FASTCALL, NULL}, {"shut_alone", (PyCFunction)core_shut_alone, METH_NOARGS, NULL},
     {"serve_left", (PyCFunction)core_serve_left, METH_NOARGS, NULL}, {"leaf", (PyCFunction)core_leaf, METH_O, NULL}, {NULL, NULL, 0, NULL}};
-static PyGetSetDef core_getset[] = {{"address", (getter)core_address, NULL, NULL, NULL}, {"first_alone", (getter)core_first_alone, NULL, NULL, NULL}, {NULL, NULL, NULL, NULL, NULL}};
+static PyGetSetDef core_getset[] = {{"address", (getter)core_address, NULL, NULL, NULL}, {NULL, NULL, NULL, NULL, NULL}};
 static PyMemberDef core_members[] = {{"kept", T_LONGLONG, offsetof(Core, kept), READONLY, NULL}, {"many_alone", T_LONGLONG, offsetof(Core, many_alone), READONLY, NULL},
                                      {"waiting", T_LONGLONG, offsetof(Core, waiting), READONLY, NULL}, {NULL, 0, 0, 0, NULL}};
 

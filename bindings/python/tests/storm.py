@@ -7,7 +7,6 @@ items, and in one order. Each resource is released once: by its observer's end, 
 import itertools
 import random
 import threading
-import time
 from functools import partial
 
 SUBJECTS = 4
@@ -199,6 +198,7 @@ class Storm:
         for subject, observers in zip(self.subjects, stay):
             for it in observers:
                 subject.pipe(self.ops.map(lambda it: (0, it))).subscribe(it)
+        before = set(threading.enumerate())
         workers = [threading.Thread(target=self.work, args=(self.seed * 100 + it,)) for it in range(threads)]
         hook = threading.excepthook
         threading.excepthook = lambda it: None if it.exc_type is Planned else hook(it)  # what an observer raised that a timer told
@@ -206,11 +206,13 @@ class Storm:
             it.start()
         self.end.wait(seconds)
         self.end.set()
-        for it in workers:
-            it.join(120)
-            if it.is_alive():
-                self.wrong.append(("hangs", it.name))
-        time.sleep(0.05)  # timers of 0.5 ms
+        while more := set(threading.enumerate()) - before:  # a timer that is at it tells what waits, and releases it behind that
+            for it in more:
+                if it.is_alive():  # else it is being started
+                    it.join(120)
+                    if it.is_alive():
+                        self.wrong.append(("hangs", it.name))
+                    before.add(it)
         threading.excepthook = hook
         for at, observers in enumerate(stay):
             emitted = sum(many for (_, of), many in self.emitted.items() if of == at)

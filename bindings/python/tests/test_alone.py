@@ -5,7 +5,9 @@ CELLARCLIFF_PIPELINES says how many programs there are (400); `python3 -m tests.
 import os
 import random
 import sys
+import threading
 import unittest
+from functools import partial
 
 from cellarcliff import rx
 from cellarcliff.rx import operators as ops
@@ -215,6 +217,44 @@ class Alone(unittest.TestCase):
                 self.fail(f"seed {seed}, at {at}\n by the engine {by_engine[max(0, at - 12):at + 8]}\n alone         {found[max(0, at - 12):at + 8]}")
             program.engine.close()
             self.assertEqual((program.engine.counts()[:3], program.engine.core.kept), ((0, 0, 0), 0), seed)
+
+    def test_what_waits_is_told_though_all_is_closed(self):
+        for is_alone in (False, True):
+            engine, subject, told = rx.use(kits.fresh_engine()), Subject(), []
+            engine.leaves_alone = is_alone
+
+            def one(it):
+                told.append(it)
+                if it == 1:
+                    subject.on_next(2)
+                    engine.close()
+                    told.append("closed")
+                    subject.on_next(3)
+            subject.subscribe(one)
+            subject.on_next(1)
+            subject.on_next(4)
+            self.assertEqual((told, engine.counts()[:3], engine.counts().effects, engine.core.kept), ([1, "closed", 2], (0, 0, 0), 0, 0), is_alone)
+
+    def test_what_another_thread_tells_is_released_behind_that(self):
+        for is_alone in (False, True):
+            engine, subject, told, is_told, goes_on = rx.use(kits.fresh_engine()), Subject(), [], threading.Event(), threading.Event()
+            engine.leaves_alone = is_alone
+
+            def slow(it):
+                is_told.set()
+                goes_on.wait(60)
+                told.append(it)
+            subject.subscribe(slow)
+            rx.using(lambda: Disposable(partial(told.append, "released")), lambda _: subject).subscribe(lambda _: None)
+            other = threading.Thread(target=subject.on_next, args=(1,))
+            other.start()
+            is_told.wait(60)
+            subject.on_next(2)
+            engine.close()
+            self.assertEqual((told.count(1), engine.counts()[:2]), (0, (0, 0)), is_alone)
+            goes_on.set()
+            other.join()
+            self.assertEqual((sorted(told, key=str), engine.counts()[:3], engine.counts().effects, engine.core.kept), ([1, 2, "released"], (0, 0, 0), 0, 0), is_alone)
 
     def test_each_hears_the_same_where_calls_are_left(self):
         for seed in range(FIRST, FIRST + MANY):

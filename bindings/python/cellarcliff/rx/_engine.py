@@ -197,8 +197,8 @@ class Engine:
 
     def _close(self) -> None:
         for _ in range(100):  # a release may subscribe
-            while IS_EXTENSION and (root := self.core.first_alone) is not None:
-                root.dispose()
+            if IS_EXTENSION:
+                self.core.shut_alone()
             for _ in range(self.counts().nodes):  # each closes a root or a connection, or more
                 if self._do(SHUT, None, None, GONE) or not self.counts().nodes:
                     break
