@@ -56,16 +56,17 @@ function renew() {
   realm.start(module, new WebAssembly.Module(glue()));
 }
 
+const words_of = (it) => (Array.isArray(it) ? [...(typeof it[0] === 'string' ? [it[0]] : []), ...it.flatMap(words_of)] : it && typeof it === 'object' ? Object.values(it).flatMap(words_of) : []);
+/** Whether a release, or a share that is left by all, subscribes to something as all is closed. */
+const isOpenedByClosing = (it, { lines }) => words_of(it.whole).includes('share with words') || lines.some((line) => line.startsWith('100 begins subscribe'));
 /** Runs it over the package; what is wrong with its engine, or its resources, if anything. */
 function kept(it) {
   const [rx] = ours;
   try {
     const before = rx.counts(), run = over(ours, it);
     const is_dead = run.lines.some((line) => /the engine stopped within a call/.test(line));
-    for (let many = -1; many < run.lines.length;) { // what a release subscribes to, as all is closed, is open
-      many = run.lines.length;
-      rx.close();
-    }
+    rx.close();
+    for (let i = 0; i < 4 && rx.counts().nodes > before.nodes && isOpenedByClosing(it, run); i++) rx.close();
     const after = rx.counts(), left = run.kept(), count = `${run.resources} resources`;
     if (is_dead) return { run, wrong: 'the engine dies' };
     if (run.twice > 0) return { run, wrong: 'a resource is released twice', count };
@@ -112,7 +113,6 @@ function plant(seed, it, a, b, name) {
 }
 
 const total = { programs: 0, on: 0, within: 0, items: 0, resources: 0, heard: 0, of_rxjs: 0, rows: 0, wrong: 0 }, by = new Map(), reached = new Map(), used = new Set();
-const words_of = (it) => (Array.isArray(it) ? [...(typeof it[0] === 'string' ? [it[0]] : []), ...it.flatMap(words_of)] : it && typeof it === 'object' ? Object.values(it).flatMap(words_of) : []);
 const shown = (seed, it, { a, b }) => console.log(`seed ${seed}\n ${JSON.stringify(it)}\n RxJS ${a.lines.join(', ')}\n ours ${b.lines.join(', ')}`);
 const seeds = given ?? Array.from({ length: many }, (_, i) => first + i);
 for (const seed of seeds) {

@@ -2,7 +2,8 @@
 //
 // Kinds: n a number below 4, h that of a subject, b yes or no, l a label, f a function on items that may fail, o an observable, O two or three of them, i a function that
 // answers one of two observables. `at` has the library (`rx`), its operators under rxjs/operators (`ops`), virtual time (`clock`), `say`, what RxJS does wrong
-// and the program itself is to mend (`mends`), how subjects are to tell, if not as they do (`subject`), and `finalize` (`finalized`).
+// and the program itself is to mend (`mends`), how subjects are to tell, if not as they do (`subject`), `finalize`
+// (`finalized`), and what ends a program that is repeated without an end (`turns`).
 // Left out are what waits for the platform's own time (promises, async iterables, streams, animation frames), other names of the same
 // (flatMap, exhaust, combineAll, never, and the older operators merge, concat, zip, race, combineLatest, partition).
 
@@ -114,10 +115,10 @@ const FLAT = {
 const AGAIN = {
   catchError: ['i', ({ rx }, i) => rx.catchError(i)],
   repeat: ['n', ({ rx, mends }, n) => oneAtATime(rx, mends, rx.repeat(n))],
-  'repeat with a delay': ['no', ({ rx, mends }, n, o) => oneAtATime(rx, mends, rx.repeat({ count: n, delay: () => behind(rx, mends, o) }))],
+  'repeat with a delay': ['no', ({ rx, mends, turns }, n, o) => oneAtATime(rx, mends, rx.repeat({ count: n, delay: () => (turns(), behind(rx, mends, o)) }))],
   repeatWhen: ['no', ({ rx, mends }, n, o) => oneAtATime(rx, mends, rx.repeatWhen((ends) => rx.concatMap(() => o)(ends).pipe(rx.take(n))))],
   retry: ['n', ({ rx, mends }, n) => oneAtATime(rx, mends, rx.retry(n))],
-  'retry with a delay': ['nob', ({ rx, mends }, n, o, b) => oneAtATime(rx, mends, rx.retry({ count: n, delay: () => behind(rx, mends, o), resetOnSuccess: b }))],
+  'retry with a delay': ['nob', ({ rx, mends, turns }, n, o, b) => oneAtATime(rx, mends, rx.retry({ count: n, delay: () => (turns(), behind(rx, mends, o)), resetOnSuccess: b }))],
   retryWhen: ['no', ({ rx, mends }, n, o) => oneAtATime(rx, mends, rx.retryWhen((ends) => rx.concatMap(() => o)(ends).pipe(rx.take(n))))],
   onErrorResumeNext: ['o', ({ ops }, o) => ops.onErrorResumeNext(o)],
 };

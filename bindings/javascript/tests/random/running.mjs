@@ -25,7 +25,7 @@ export class Run {
    *  besides (`leaves`); what is followed by something is released first (`releases`); the program mends what RxJS does wrong (`mends`: mix.mjs). */
   constructor(rx, ops, it, { puts_off = [], hushes = false, leaves = '', releases = false, mends = new Set() } = {}) {
     Object.assign(this, { rx, ops, it, puts_off, hushes, leaves, releases, mends });
-    Object.assign(this, { put_off: [], place: null, lines: [], step: 0, resources: 0, functions: 0, open: new Map(), twice: 0, is_on: false, subscriptions: {}, connectables: [], frame: 0 });
+    Object.assign(this, { put_off: [], place: null, turned: 0, lines: [], step: 0, resources: 0, functions: 0, open: new Map(), twice: 0, is_on: false, subscriptions: {}, connectables: [], frame: 0 });
     this.counted = Object.fromEntries(WHERE.map((where) => [where, 0]));
     this.reached = new Set();
     this.hots = Array.from({ length: HOTS }, (_, i) => this.hot(i));
@@ -35,6 +35,7 @@ export class Run {
       rx, ops, mends, clock: this.clock,
       finalized: releases ? finalizing(rx) : rx.finalize, subject: leaves ? (it) => inLeaves(rx, it, leaves === 'subjects') : undefined,
       resource: (l) => this.resource(l), emitter: (n) => this.emitter(n), connects: (it) => (this.connectables.push(it), it),
+      turns: () => { if (++this.turned > MOST) this.runsOn(); },
       say: (...of) => {
         this.say(...of);
         this.within(/finalized|left/.test(of.join(' ')) ? 'release' : 'call');
@@ -47,12 +48,13 @@ export class Run {
     return this.leaves ? inLeaves(rx, made, this.leaves === 'subjects') : made;
   }
   say(...of) {
-    if (this.lines.length > MOST) {
-      this.is_on = true;
-      for (const it of Object.values(this.subscriptions)) it.unsubscribe(); // since an observer's error is reported, and stops nobody
-      throw new Error('runs on');
-    }
+    if (this.lines.length > MOST) this.runsOn();
     this.lines.push(`${this.step} ${of.join(' ')}`);
+  }
+  runsOn() {
+    this.is_on = true;
+    for (const it of Object.values(this.subscriptions)) it.unsubscribe(); // since an observer's error is reported, and stops nobody
+    throw new Error('runs on');
   }
   /** What a callback does from within, where its turn has come. */
   within(where) {
