@@ -998,7 +998,7 @@ static uint64_t roles_of(const struct cellar_command *c) {
  * wait. */
 typedef struct {
   struct cellar_command c;
-  PyObject *thing, *share;
+  PyObject *thing, *share, *first; /* first: an item of what is opened, in its lane before anything is told; or NULL */
   Key *node, *other; /* other: of a connection that is asked for */
   struct cellar_node opened;
   int is_exchange, is_connected;
@@ -1035,13 +1035,16 @@ static int opened(Core *core, Opening *it) {
   it->c.hub = s.hub;
   if (it->share && PyObject_SetAttr(it->share, s_connection, (PyObject *)it->other)) return calls.stop(&core->engine, &here->turn.stack), here->turn = outer, -1;
   if (it->is_exchange && here->telling.core == core) let_pass(here);
-  return end(here, &outer, &s);
+  uint8_t status = it->first ? put_there(here, (Leaf *)ITEM(thing, 1), CELLAR_NEXT, it->first, &s) : 0;
+  int failed = end(here, &outer, &s);
+  return failed || !status ? failed : refused(status);
 }
-/* what, the node above, (root, what closes, what projects) or None, a release or None, whether it takes the place of something: the key. */
+/* what, the node above, (root, what closes, what projects) or None, a release or None, whether it takes the place of something, and the first item of a
+ * leaf, if there is one: the key. */
 static PyObject *core_open(Core *self, PyObject *const *given, Py_ssize_t many) {
   Opening it = {.share = NULL};
-  if (!asked_for(&it.c, given, many, 5) || !(it.node = new_key())) return NULL;
-  it.thing = given[2], it.is_exchange = given[4] == Py_True;
+  if (!asked_for(&it.c, given, many, many == 6 ? 6 : 5) || !(it.node = new_key())) return NULL;
+  it.thing = given[2], it.is_exchange = given[4] == Py_True, it.first = many == 6 ? given[5] : NULL;
   if (given[3] != Py_None) it.c.value = (uintptr_t)given[3], keep(self, given[3], 1);
   int failed = opened(self, &it);
   if (it.status && given[3] != Py_None) let_go(self, given[3]);

@@ -85,6 +85,25 @@ class HandedOut(Case):
             it.join()
         self.assertEqual(sorted(told), [(it, i) for it in range(4) for i in range(many)])
 
+    @unittest.skipUnless(is_exact(), "by ctypes an interrupt may lose what was begun")
+    def test_an_interrupt_loses_no_item_that_comes_by_a_second_way(self):
+        for interrupts in "a1", "b1", "a2", "b2":
+            subject, told = Subject(), []
+
+            def one(value):
+                told.append(value)
+                if value == interrupts and told.count(value) == 1:
+                    raise KeyboardInterrupt
+            functions = subject.pipe(ops.share(), ops.map(lambda it: f"a{it}"), ops.as_observable())
+            rx.merge(functions, subject.pipe(ops.map(lambda it: f"b{it}"))).subscribe(one)
+            for value in 1, 2:
+                try:
+                    subject.on_next(value)
+                except KeyboardInterrupt:
+                    rx.empty().subscribe()
+            self.assertEqual(sorted(told), ["a1", "a2", "b1", "b2"], interrupts)
+            self.engine.close()
+
     def test_an_interrupt_leaves_what_is_shared(self):
         subject, told = Subject(), []
         for share in ops.multicast(subject_factory=lambda _: Subject(), mapper=lambda it: it), rx.pipe(ops.replay(buffer_size=1), ops.ref_count()):

@@ -84,9 +84,9 @@ class Engine:
         self.core = C.Core(max_events)
         self._process, self._calls = os.getpid(), None  # type: Any, Any
 
-    def open(self, at: At, kind: int, close: Any = None, project: Optional[Callable[[Any], Any]] = None) -> Any:
+    def open(self, at: At, kind: int, close: Any = None, project: Optional[Callable[[Any], Any]] = None, *first: Any) -> Any:
         """Opens a node: `close` is a leaf that stops as it closes, or what is called then; `project` is given what a FlatMap or Switch
-        is to project."""
+        is to project; `first` is an item of the leaf, which stands in its lane before anything is told."""
         root = at.root
         if close is not None:
             if type(close) is not Leaf:
@@ -94,7 +94,7 @@ class Engine:
                 close.on_closed = call
             close.above, at.holder = at.holder, close
         what = OPEN | at.place << 8 | kind << 16 | (at.flags | (WISHES if close is not None else 0)) << 24
-        at.node = self.core.open(what, at.above, None if root is close is project is None else (root, close, project), None, at.is_exchange)
+        at.node = self.core.open(what, at.above, None if root is close is project is None else (root, close, project), None, at.is_exchange, *first)
         return at.node
 
     def source(self, at: At, holds: bool = False) -> Any:

@@ -174,12 +174,10 @@ class _Relay:
         except Refused as why:  # it was closed while the item stood in its lane
             if why.name not in ("Gone", "NothingOwed"):
                 raise
-            return
-        except BaseException:
-            self._engine.decline(self._node)
-            raise
-        if self._is_owed:
-            self._engine.decline(self._node)
+            self._is_owed = False
+        finally:
+            if self._is_owed:
+                self._engine.decline(self._node)
 
     def _source_closed(self) -> None:
         """The source is closed. If it failed, or something further out closed it, so is all else; what was projected comes first."""
@@ -197,14 +195,17 @@ class _Relay:
         return bool(self.node_is.is_stopped)
 
     def on_next(self, value: Any) -> None:
-        if self._leaf is None:
-            self._leaf = Leaf(self._engine.core)
-            self._leaf.is_fed = True
-            self._engine.open(self._inner, LEAF, self._leaf)
-        else:
-            self._engine.decline(self._node)
-        self._is_owed = False
-        self._leaf.on_next(value)
+        """The item stands in its lane before anybody is told anything, who may interrupt this."""
+        if self._leaf is not None:
+            self._leaf.on_next(value)
+            return
+        self._leaf = Leaf(self._engine.core)
+        self._leaf.is_fed, self._is_owed = True, False
+        try:
+            self._engine.open(self._inner, LEAF, self._leaf, None, value)
+        except Exception:
+            self._is_owed = True  # it was refused
+            raise
 
     def on_error(self, error: Exception) -> None:
         self._is_owed = False

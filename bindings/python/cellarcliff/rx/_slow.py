@@ -311,13 +311,15 @@ class Core:
             self._count(user, -roles)
         return status, a
 
-    def open(self, what: int, above: Any, thing: Any, release: Any, is_exchange: bool) -> Key:
+    def open(self, what: int, above: Any, thing: Any, release: Any, is_exchange: bool, *first: Any) -> Key:
         tag = self._keep(release, 1) if release is not None else 0
         status, a = self._opened(what, above, thing, tag, is_exchange=is_exchange)
         if status:
             if tag:
                 self._count(tag, -1)
             refuse(status)
+        for it in first:
+            thing[1].on_next(it)
         return Key((a[0], a[1]))
 
     def using(self, what: int, above: Any, thing: Any, factory: Callable[[], Any]) -> Tuple[Key, Any]:
