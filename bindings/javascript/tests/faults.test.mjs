@@ -29,6 +29,19 @@ export const tests = {
     rx.of(1).pipe(rx.mergeMap(() => rx.using(() => resource(say), () => new rx.Observable((to) => { to.complete(); return () => { throw new Error('x'); }; }))))
       .subscribe({ complete: () => say('end'), error: () => say('error') });
   }, ['r released', 'end', 'unhandled x'], ['end']),
+  'an input of zip ends at once and its teardown throws': test((rx, say) => {
+    const fails = new rx.Observable((to) => { to.next(1); to.complete(); return () => { throw new Error('x'); }; });
+    rx.zip(rx.NEVER, fails).subscribe({ error: () => say('error') });
+    rx.zip(rx.NEVER, fails.pipe(rx.map((x) => x), rx.switchMap(() => rx.NEVER))).subscribe({ error: () => say('error of an inner') });
+  }, ['unhandled x', 'unhandled x'], ['error']),
+  'what retry repeats fails at once and its teardown throws': test((rx, say) => {
+    const fails = new rx.Observable((to) => { say('made'); to.error(new Error('no')); return () => { throw new Error('x'); }; });
+    fails.pipe(rx.retry(1)).subscribe({ error: ({ message }) => say(`error ${message}`) });
+  }, ['made', 'made', 'error no', 'unhandled x', 'unhandled x'], ['made', 'error x']),
+  'a teardown throws as its end is told by a link': test((rx, say) => {
+    const fails = new rx.Observable(() => () => { throw new Error('x'); });
+    rx.onErrorResumeNext(fails.pipe(rx.sample(rx.throwError(() => 'over'))), rx.of('goes on')).subscribe({ next: say, error: () => say('error') });
+  }, ['goes on', 'unhandled x'], ['goes on']),
   'a finalizer throws at the end of a subject': test((rx, say) => {
     const s = new rx.Subject();
     s.pipe(rx.finalize(() => { throw new Error('x'); })).subscribe({ complete: () => say('first') });

@@ -52,7 +52,7 @@ export class Observable {
     const leaf = openLeaf(at);
     if (leaf === null || (leaf.closed && !isLeft(leaf))) return;
     const teardown = operator ? this._called(operator, leaf, source) : source ? this._passed(leaf) : this._trySubscribe(leaf);
-    if (teardown) leaf.add(teardown);
+    if (teardown) holds(leaf, teardown);
   }
 
   _called(operator, leaf, source) {
@@ -94,6 +94,19 @@ export class Observable {
   [observable]() { return this; }
 }
 
+/** A source's teardown. That of a source which has ended is done at once: what it throws goes to the program's line that subscribes, or else is
+ *  reported, since who heard the end hears no error behind it. */
+function holds(leaf, teardown) {
+  try { leaf.add(teardown); } catch (error) {
+    if (error instanceof RangeError || !(leaf.hears ?? leaf).closed || isOfLine(leaf)) throw error;
+    realm.engine.report(error);
+  }
+}
+function isOfLine(leaf) {
+  let root = leaf;
+  while (root.above !== null) root = root.above;
+  return root.hears !== null && isAsked(root.hears);
+}
 const promiseOf = (given) => given ?? config.Promise ?? Promise;
 export const isOurs = (value) => !!value && isFunction(value._open) && isFunction(value.lift);
 export const isObservable = (value) => !!value && (value instanceof Observable || (isFunction(value.lift) && isFunction(value.subscribe)));

@@ -226,4 +226,4 @@ export const isSubscriber = (value) => value instanceof Subscriber
   || (!!value && isFunction(value.next) && isFunction(value.error) && isFunction(value.complete) && isSubscription(value));
 
 // What the package's own functions throw in the midst of telling is reported too.
-realm.report ??= reportUnhandledError;
+realm.report ??= (error) => (error instanceof UnsubscriptionError ? error.errors : [error]).forEach((it) => reportUnhandledError(it));
