@@ -112,6 +112,15 @@ export const tests = {
     source.next(1);
     other.next(3);
   }, [1, 'error', 3, 'item', 'end'], undefined, [1, 2, 'error', 3, 4, 'item', 'end']),
+  'what takeUntil listens to is released before the end of its source is counted': test((rx, say) => {
+    const ends = new rx.Subject(), held = (n) => new rx.Observable(() => {
+      say(`made ${n}`);
+      return () => say(`released ${n}`);
+    });
+    rx.of(1, 2).pipe(rx.concatMap((n) => ends.pipe(rx.takeUntil(held(n))))).subscribe({ complete: () => say('end') });
+    ends.pipe(rx.takeUntil(held(3).pipe(rx.map((x) => x))), rx.startWith(0)).subscribe({ complete: () => say('other end') });
+    ends.complete();
+  }, ['made 1', 'made 3', 'released 1', 'made 2', 'released 2', 'end', 'released 3', 'other end']),
   'onErrorResumeNext makes no other as it is left': test((rx, say) => {
     const stop = new rx.Subject(), source = new rx.Subject(), held = rx.defer(() => {
       say('made');

@@ -34,6 +34,7 @@ export class Inner {
     this.tag = tag;
     this.above = above;
     this.leaf = null; // the end below
+    this.beside = null; // of a node that another observable ends: that one's leaf
   }
   releases() {
     const { leaf } = this;
@@ -47,7 +48,10 @@ export function stops(leaf) {
 }
 function releases(leaf) {
   stops(leaf);
-  for (let it = leaf._inner; it.above !== null; it = it.above) if (it.tag !== null) realm.engine.remove(it.tag);
+  for (let it = leaf._inner; it.above !== null; it = it.above) {
+    if (it.tag !== null) realm.engine.remove(it.tag);
+    if (it.beside !== null) it.beside.releases();
+  }
 }
 
 /** A function on items, or several ends: it passes on to the one above it. `hooked` if it ends by itself or does something at an end. */

@@ -3,8 +3,7 @@ import { NOTIFIER, SOURCE, UNTIL } from '../engine/codes.mjs';
 import { Inner, Stage, TERMINAL, failing, stops } from '../core/leaf.mjs';
 import { realm } from '../engine/realm.mjs';
 import { Link } from '../core/link.mjs';
-import { Observable } from '../core/observable.mjs';
-import { LEFT, Place, openAt, openLeaf, openNode, settled, unopenedAt } from '../core/place.mjs';
+import { LEFT, MERGED, Place, openAt, openLeaf, openNode, settled, unopenedAt } from '../core/place.mjs';
 import { operate, operator } from '../core/operator.mjs';
 import { isLeaf } from '../core/subject.mjs';
 import { noop } from '../core/util.mjs';
@@ -42,7 +41,8 @@ export function takeUntil(notifier) {
     const other = innerFrom(notifier), place = settled(at), body = { over: false, shut() { this.over = true; } }, thing = place && openNode(place, UNTIL, body);
     if (!thing) return;
     const ends = place._inner && new Inner(null, place._inner), below = new Place(SOURCE, thing, null, place._way, null, ends);
-    try { notifies(other, new Place(NOTIFIER, thing, null, new Notifies(TERMINAL, ends))); } catch (error) { return unopenedAt(below, error); }
+    if (ends !== null) ends.beside = new Inner(null, MERGED);
+    try { notifies(other, new Place(NOTIFIER, thing, null, new Notifies(TERMINAL, ends), null, ends && ends.beside)); } catch (error) { return unopenedAt(below, error); }
     if (thing !== LEFT && !body.over) openAt(source, below);
   });
 }
