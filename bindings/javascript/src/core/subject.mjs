@@ -184,11 +184,6 @@ export class Subject extends Observable {
 }
 
 const isSubject = (it) => !it.operator && !it.source && it._open === Subject.prototype._open && it._subscribe === Subject.prototype._subscribe;
-/** Whether it is a subject, through functions on items alone: who hears that holds nothing. */
-export function isBare(it) {
-  while (it.operator?.is_stage && it.source) it = it.source;
-  return isSubject(it);
-}
 /** Whether nothing is told as it is subscribed to. */
 export const isSilent = (it) => isSubject(it) && !it.isStopped && !it.closed;
 /** Whether it opens a leaf, and nothing else. */
