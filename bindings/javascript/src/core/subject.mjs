@@ -202,7 +202,6 @@ export class AnonymousSubject extends Subject {
   error(error) { this.destination?.error?.(error); }
   complete() { this.destination?.complete?.(); }
   _subscribe(subscriber) { return this.source?.subscribe(subscriber) ?? Subscription.EMPTY; }
-  get observed() { return super.observed; }
 }
 
 export class BehaviorSubject extends Subject {
