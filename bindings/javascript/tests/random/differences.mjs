@@ -23,6 +23,7 @@ export const MANNERS = {
   'what a callback tells from within comes as soon as it has returned': [(it) => acts(it, ...TELLS), { puts_off: TELLS }],
   'what is told from within to one who is being told comes behind that': [(it) => acts(it, ...TELLS), { leaves: 'subjects' }],
   'what is told from within to an observer that is being told comes behind that': [(it) => acts(it, ...TELLS), { leaves: 'roots' }],
+  'what is told from within to an observer, or by an observable within another, that is being told comes behind that': [(it) => acts(it, ...TELLS), { leaves: 'inners' }],
   'what is told from within to an observer, or a function, that is being told comes behind that': [(it) => acts(it, ...TELLS), { leaves: 'places' }],
   'what comes of a subscription from within comes as soon as the callback has returned': [(it) => acts(it, 'subscribe'), { puts_off: ['subscribe'] }],
   'what is repeated comes as soon as what told of it has returned': [({ whole }) => hasWord(whole, (name) => /^(repeat|retry) with/.test(name)), { mends: ['behind'] }],

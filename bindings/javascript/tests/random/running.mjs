@@ -21,8 +21,8 @@ export const TELLS = ['next', 'complete', 'error'];
 
 export class Run {
   /** In another manner than a library's own: callbacks do these kinds of acts as soon as the step has returned (`puts_off`); what a release throws
-   *  is lost (`hushes`); who is being told something hears the rest behind that, by each subscription to a subject, each observer, or each function
-   *  besides (`leaves`); what is followed by something is released first (`releases`); the program mends what RxJS does wrong (`mends`: mix.mjs). */
+   *  is lost (`hushes`); who is being told something hears the rest behind that, by each subscription to a subject, each observer, each inner
+   *  observable besides, or each function (`leaves`); what is followed by something is released first (`releases`); the program mends what RxJS does wrong (`mends`: mix.mjs). */
   constructor(rx, ops, it, { puts_off = [], hushes = false, leaves = '', releases = false, mends = new Set() } = {}) {
     Object.assign(this, { rx, ops, it, puts_off, hushes, leaves, releases, mends });
     Object.assign(this, { put_off: [], place: null, turned: 0, lines: [], step: 0, resources: 0, functions: 0, open: new Map(), twice: 0, is_on: false, subscriptions: {}, connectables: [], frame: 0 });
@@ -100,7 +100,10 @@ export class Run {
     const from = this.source(source), all = operators.map((it) => this.operator(it));
     return all.reduce((it, one) => it.pipe(one), from);
   }
-  inner(it) { return this.releases ? releasing(this.rx)(this.build(it)) : this.build(it); }
+  inner(it) {
+    const made = this.build(it);
+    return this.releases ? releasing(this.rx)(made) : this.leaves === 'inners' ? waiting(this.rx)(made) : made;
+  }
   source([name, ...words]) {
     if (name === 'hot') return this.hots[words[0]];
     if (name === 'cold') return this.cold(...words);
@@ -192,7 +195,7 @@ export class Run {
     if (what === 'subscribe') {
       // known before it tells anything, so that it can be left from within
       const { next, error, complete } = this.observer(who), whole = this.subscriptions[who] = this.rx.Subscriber.create(next, error, complete);
-      (['roots', 'places'].includes(this.leaves) ? waiting(this.rx)(this.pipe) : this.pipe).subscribe(whole);
+      (['roots', 'inners', 'places'].includes(this.leaves) ? waiting(this.rx)(this.pipe) : this.pipe).subscribe(whole);
     } else if (what === 'unsubscribe') this.subscriptions[who]?.unsubscribe();
     else if (what === 'connect') this.connections = this.connectables.map((it) => it.connect());
     else if (what === 'time') {
