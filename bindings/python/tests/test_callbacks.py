@@ -6,6 +6,7 @@ import threading
 import time
 import unittest
 import weakref
+from functools import partial
 
 from cellarcliff import rx
 from cellarcliff.rx import operators as ops
@@ -103,6 +104,22 @@ class HandedOut(Case):
                     rx.empty().subscribe()
             self.assertEqual(sorted(told), ["a1", "a2", "b1", "b2"], interrupts)
             self.engine.close()
+
+    @unittest.skipUnless(is_exact(), "by ctypes nothing that is open is collected")
+    def test_what_nobody_can_tell_anything_is_collected_below_a_connection(self):
+        def interrupted():
+            raise KeyboardInterrupt
+        for make in Subject, partial(rx.from_callable, interrupted):
+            published = make().pipe(ops.map(rx.just), ops.merge(max_concurrent=2), ops.publish())
+            try:
+                published.connect()
+            except KeyboardInterrupt:
+                pass
+            gc.collect()
+            rx.empty().subscribe()
+            del published
+            gc.collect()
+            self.assertEqual((self.engine.counts().nodes, self.engine.core.kept), (0, 0), make)
 
     def test_an_interrupt_leaves_what_is_shared(self):
         subject, told = Subject(), []

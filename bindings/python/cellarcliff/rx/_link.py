@@ -44,6 +44,11 @@ class Link:
             it.is_stopped = True  # what stands in the lane for one of them is not told as another goes
         _each([*(partial(_dispose, it) for it in reversed(held)), self._keeper.dispose, *(it.dispose for it in roots)])
 
+    def __del__(self) -> None:
+        """Nobody can tell it anything any more, though what is shared above it is still connected."""
+        if not self._keeper.is_over:
+            C.call(self._keeper.dispose)
+
     # what is told
 
     @property
