@@ -86,7 +86,6 @@ class HandedOut(Case):
             it.join()
         self.assertEqual(sorted(told), [(it, i) for it in range(4) for i in range(many)])
 
-    @unittest.skipUnless(is_exact(), "by ctypes an interrupt may lose what was begun")
     def test_an_interrupt_loses_no_item_that_comes_by_a_second_way(self):
         for interrupts in "a1", "b1", "a2", "b2":
             subject, told = Subject(), []

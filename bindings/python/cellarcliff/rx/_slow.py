@@ -289,7 +289,8 @@ class Core:
         leaf.is_fed = True
         return leaf
 
-    def _opened(self, what: int, above: Any, thing: Any, value: int, hub: int = 0, share: Any = None, is_exchange: bool = False) -> Tuple[int, List[int]]:
+    def _opened(self, what: int, above: Any, thing: Any, value: int, hub: int = 0, share: Any = None, is_exchange: bool = False,
+                first: Tuple[Any, ...] = ()) -> Tuple[int, List[int]]:
         command, place, kind, flags = what & 255, what >> 8 & 255, what >> 16 & 255, what >> 24 & 255
         roles = flags & WISHES
         if command != CONNECT:
@@ -306,20 +307,25 @@ class Core:
                         thing[1].above.below += 1
             if share is not None:
                 share.connection = Key((a[2], a[3]))
-        status, a = self.turn(self.make, (what, hub, *(above.node if above is not None else (0, 0)), user, value), 0, known, is_exchange)
+
+        def make(stack: Any, words: Tuple[int, ...]) -> Any:
+            status, answer, handed = self.make(stack, words, 0, known, is_exchange)
+            for it in first if not status else ():  # in its lane before anything is told
+                word = self._keep(it, _MANY) if it is not None else 0
+                handed = self.make(stack, (NEXT, 0, *thing[1].node, 0, word), word)[2]
+            return status, answer, handed
+        status, a = self.turn(make, (what, hub, *(above.node if above is not None else (0, 0)), user, value))
         if status and user:
             self._count(user, -roles)
         return status, a
 
     def open(self, what: int, above: Any, thing: Any, release: Any, is_exchange: bool, *first: Any) -> Key:
         tag = self._keep(release, 1) if release is not None else 0
-        status, a = self._opened(what, above, thing, tag, is_exchange=is_exchange)
+        status, a = self._opened(what, above, thing, tag, is_exchange=is_exchange, first=first)
         if status:
             if tag:
                 self._count(tag, -1)
             refuse(status)
-        for it in first:
-            thing[1].on_next(it)
         return Key((a[0], a[1]))
 
     def using(self, what: int, above: Any, thing: Any, factory: Callable[[], Any]) -> Tuple[Key, Any]:
