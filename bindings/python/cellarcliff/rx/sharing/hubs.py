@@ -24,7 +24,7 @@ class _Share:
         self.source, self.kind, self.word = source, kind, next(_words)
         self.hub = UNKNOWN_HUB  # the last that it had
         self._engine: Any = None  # in which that is
-        self._subscribers = C.Subject()  # of their leaves, while they are open: held by what is below the connection
+        self._subscribers: Any = {}  # their leaves: held by what is below the connection
         self._level: Optional[int] = None
         self._opens = 0  # the command that opens a subscriber, but for its place
 
@@ -40,14 +40,15 @@ class _Share:
         core, status = at.engine.core, NO_HUB
         leaf = core.leaf(None)
         leaf.above = at.holder
-        self._subscribers._join(leaf, leaf)
+        self._subscribers[leaf] = None
+        leaf.on_closed = lambda: self._subscribers.pop(leaf, None)
         what = self._opens = self._opens or OPEN | self.kind << 16 | WISHES << 24 | self.level << 32
         try:
             status, node, connection, hub = core.share(what | at.place << 8 | at.flags << 24, at.above, (at.root, leaf, None), self.word, self.hub, None,
                                                        at.is_exchange)
         finally:
             if status:
-                del self._subscribers._ups[leaf]
+                del self._subscribers[leaf]
         if status:
             if status not in (HUB_ORDER, NO_HUB):
                 refuse(status)
