@@ -1,12 +1,11 @@
 -- No call on a handle loses a lane.
-use Rattle.std.proofs.Common.{◌≡◌, ℕ, List, Some, None, sym, ap, subst}
+use Rattle.std.proofs.Common.{◌≡◌, List, Some, None, sym, subst}
 use Rattle.std.proofs.lemmas.Option.{same_Some}
 use Rattle.rx_resource.specs.declared.Resource.{Ghosts}
 use Rattle.rx_resource.specs.declared.token.Token.{Token}
 use Rattle.rx_turns.specs.declared.turns.Turns.{Turns}
-use Rattle.rx_turns.specs.States.{TurnState, turn_state}
+use Rattle.rx_turns.specs.States.{turn_state}
 use Rattle.rx_turns.specs.Tended.{NoLaneIsLost, LosesNoLane}
-use Rattle.cellarcliff.specs.Calls.{IsMade}
 use Rattle.cellarcliff.specs.Courses.{Shown, IsCellarCall, cellar_step, cellar_next, cellar_pass, cellar_stop, cellar_closings, cellar_totals, cellar_event}
 use Rattle.cellarcliff.specs.Courses.{cellar_dump, cellar_new, cellar_finish, CellarCourse, no_call, calls_on}
 use Rattle.cellarcliff.specs.LanesServed.{CallsTendEachLane}

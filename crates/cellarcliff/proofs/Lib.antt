@@ -7,6 +7,7 @@ mod AnswersHandedOut
 mod CallsMakeCourses
 pub mod Common
 mod CountsOverLanes
+mod EachEndedOnce
 mod EffectsToldOnce
 mod FollowBothWays
 mod HeldToTheEnd

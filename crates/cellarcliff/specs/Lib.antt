@@ -13,3 +13,4 @@ pub mod Refusals
 pub mod Shown
 pub mod Stages
 pub mod Steps
+pub mod WordsEnded

@@ -3,11 +3,13 @@
 ghost use Rattle.cellarcliff.specs.Courses.{AreCallsCourses, AreTicketsOwn, AreEffectsToldOnce};
 ghost use Rattle.cellarcliff.specs.LanesServed.{AreEffectsToldInOrder, AreRootsTold, AreLanesServedOneByOne, StepsLeaveNothing, CallsTendEachLane, RefusedCallsChangeNothing};
 ghost use Rattle.cellarcliff.specs.LiveCourses.{AreAnswersHandedOut};
+ghost use Rattle.cellarcliff.specs.WordsEnded.{EndEachOnce};
 
 use rx_book::Resource;
 use rx_courses::{
-    each_is_told_once, lanes_are_served_one_at_a_time, nothing_is_stuck, refused_is_unchanged,
-    roots_are_told_in_order, tags_once, tells_in_order,
+    closings_once, each_is_told_once, lanes_are_served_one_at_a_time,
+    nothing_comes_behind_a_last_effect, nothing_is_stuck, refused_is_unchanged,
+    roots_are_told_in_order, tags_once, tells_in_order, values_once, words_end_once,
 };
 use rx_resource::Token;
 use rx_turns::{
@@ -53,6 +55,19 @@ pub fn roots_hear_in_order()
     ensures { AreRootsTold ⟦<Token as Resource>⟧ }
 {
     roots_are_told_in_order();
+}
+
+/// Of the same calls, for each word: as many last effects for it were put into lanes, or are still to come, as roles were
+/// given to it, and each effect that has it finds a role that has not ended, so that of a word that was given to one role
+/// none comes behind the last; and as many closings stood in an answer, or are still to come, as were wished for with it. Each
+/// value is carried by as many effects as the answers counted. So a face knows when it may let either go.
+pub fn words_and_values_end_once()
+    ensures { EndEachOnce ⟦<Token as Resource>⟧ }
+{
+    words_end_once();
+    nothing_comes_behind_a_last_effect();
+    closings_once();
+    values_once();
 }
 
 /// Of any calls on one handle, from whenever on: who serves a lane serves it alone, and nobody else is given

@@ -46,8 +46,9 @@
 //! - Each call on an engine is one line of `specs/Calls.antt` or `specs/Steps.antt`: what the handle keeps before and
 //!   after it, and what is told. Any calls on one handle are a course of its engine ([`calls_are_courses`],
 //!   `specs/Courses.antt`): each tag is released once, each effect told once, under a ticket of its own, by one stack at a
-//!   time and in order in its lane, and a root hears nothing behind its end. A refused command changes nothing
-//!   ([`refused_calls_change_nothing`]), and a step that hands out nothing leaves nothing ([`steps_leave_nothing`]).
+//!   time and in order in its lane, and a root hears nothing behind its end. No effect has a word behind its last
+//!   ([`words_and_values_end_once`]). A refused command changes nothing ([`refused_calls_change_nothing`]), and a step that
+//!   hands out nothing leaves nothing ([`steps_leave_nothing`]).
 //! - Each answer of an audit or a run is one line of `Answers` (`specs/`): the text is the verdict on the
 //!   history of which the input is a dump, what `rx_script` says of a scenario, or the picture that `rx_svg` tells of
 //!   a history, and a status comes only for its cause. An explanation has a text for just the inputs that `rxbook`
@@ -89,6 +90,7 @@ pub use laws::{
     answers_are_handed_out_once, calls_are_courses, effects_are_told_in_order,
     effects_are_told_once, lanes_are_served_one_by_one, no_effect_is_lost,
     refused_calls_change_nothing, roots_hear_in_order, steps_leave_nothing, tickets_are_own,
+    words_and_values_end_once,
 };
 pub use live::{
     cellar_live_drop, cellar_live_end, cellar_live_new, cellar_live_read, cellar_live_send,

@@ -23,6 +23,7 @@
 //! - A lane is due to one turn at most ([`Turns::promise`]).
 //! - Of each serving: where it hands out nothing, the turn has nothing any more; what it hands out is in hand; each other
 //!   turn keeps what it has. These are laws (`specs/Promises.antt`), each the contract of a public function without a body.
+//! - No call loses a lane ([`no_lane_is_lost`], `specs/Tended.antt`): what waits in one is due to a turn, in hand, or astray.
 //! - A pass and a stop cannot fail, and a stop asks for no memory.
 //!
 //! # Not promised
