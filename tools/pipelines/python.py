@@ -145,7 +145,7 @@ def child(with_rxpy, at):
 
     def answer(**it):
         print(json.dumps(it), file=out, flush=True)
-    trial = Trial(with_rxpy)
+    trial, kept = Trial(with_rxpy), 0
     for line in sys.stdin:
         given = ast.literal_eval(line)
         if "program" in given:
@@ -163,6 +163,9 @@ def child(with_rxpy, at):
             is_shown = seed in given["shown"]
             if is_shown or wrong or rows:
                 answer(seed=seed, wrong=wrong, rows=rows, ours=ours if is_shown else None)
+        kept, before = gc.get_freeze_count(), kept
+        if before and kept > before + BATCH + len(given["seeds"]):
+            answer(seed=seed, wrong=["the process keeps what programs are made of"])
         answer(counts={name: it for name, it in trial.counts.items()})
         trial.counts.clear()
 

@@ -344,6 +344,7 @@ class World:
             self.wrong("a resource is released twice")
         if any(not it.released for it in self.resources):
             self.wrong("a resource is never released")
+        self.rx.set_error_hook(None)  # or this world is frozen with the next, and never collected
 
     def expects(self, ways, is_ordered):
         """Each observer, by its k, hears each item of each subject so many times: `ways` has that by subject. Where they are ordered, it hears in

@@ -2,6 +2,7 @@
 
 CELLARCLIFF_ITEMS says how many items there are (20,000).
 """
+import gc
 import os
 import resource
 import unittest
@@ -62,6 +63,12 @@ class Days(unittest.TestCase):
             both[0].dispose()
         self.grows_not(step, 10)
         self.assertEqual(released, [ITEMS // 10])
+
+    def test_engines(self):
+        gc.collect()
+        for _ in range(100):
+            rx.use(fresh_engine()).counts()
+        self.assertLess(gc.collect(), 100)  # as many cycles, or more, where each finds the library anew
 
 
 if __name__ == "__main__":

@@ -2,6 +2,7 @@
 from __future__ import annotations
 
 import ctypes
+import functools
 import threading
 from ctypes import addressof, c_size_t, c_uint8, c_uint32, c_uint64, c_void_p
 from typing import Any, List, Optional, Tuple
@@ -33,8 +34,9 @@ _ARGUMENTS = {
     "dump": [c_void_p, c_void_p, c_size_t, c_void_p], "finish": [c_void_p], "drop": [c_void_p], "abi": [], "size": [c_uint32]}
 
 
+@functools.lru_cache(maxsize=None)
 def library() -> Any:
-    """The library, with the types of its calls. Raises OSError if there is none, ImportError if it is of another version."""
+    """The library, one for the process, with the types of its calls. Raises OSError if there is none, ImportError if it is of another version."""
     found = _library.having("cellar_step", ctypes.PyDLL)
     for name, arguments in _ARGUMENTS.items():
         call = getattr(found, f"cellar_{name}")
