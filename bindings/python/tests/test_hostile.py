@@ -359,6 +359,24 @@ class Hostile(unittest.TestCase):
         gc.collect()
         self.assertEqual((len(told), len(self.resources.released)), (2 * many, many))
 
+    @unittest.skipIf(is_model(), "the model is not there in a new process")
+    def test_what_is_shared_within_create_is_collected_in_any_order(self):
+        program = """
+import gc
+from cellarcliff import rx
+from cellarcliff.rx import operators as ops
+from cellarcliff.rx.subject import Subject
+gc.set_threshold(20, 2, 2)  # so a part of what goes is older than the rest
+for _ in range(5):
+    subject = Subject()
+    rx.create(lambda to, scheduler=None: subject.pipe(ops.share(), ops.min()).subscribe_(to.on_next, to.on_error, to.on_completed)).subscribe()
+    subject = None
+    gc.collect()
+    rx.current().close()
+print(rx.current().counts()[:3], rx.current().core.kept)"""
+        ran = subprocess.run([sys.executable, "-c", program], stdout=subprocess.PIPE, text=True, timeout=60)
+        self.assertEqual((ran.returncode, ran.stdout), (0, "(0, 0, 0) 0\n"))
+
     # fork
 
     @unittest.skipUnless(hasattr(os, "fork"), "there is no fork")
