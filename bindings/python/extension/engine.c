@@ -84,7 +84,7 @@ enum { ALONE = 1, BUSY = 2, WAITS = 4 };
 typedef struct {
   PyObject_HEAD
   PyObject *down, *down_next, *steps; /* steps: functions, of each a kind: 0 map, 1 filter */
-  PyObject *relay;                    /* the leaf of the relay that they stand at, or NULL */
+  PyObject *at;                       /* the leaf or the root that they stand at, perhaps with other functions between; or NULL */
   Leaf *leaf, *emits;                 /* not held: where items go on to, if that is a leaf; what somebody else emits by, or NULL */
   Py_ssize_t many;
   char *kinds;
@@ -605,8 +605,8 @@ static int note(struct Mine *here, Leaf *leaf, uint8_t what, PyObject *value) {
 }
 /* Whether what they stand at is over, as far as can be seen. */
 static int is_over(Chain *chain) {
-  Leaf *leaf = chain->leaf ? chain->leaf : (Leaf *)chain->relay;
-  return leaf ? leaf->is_stopped : !chain->down_next && ((Root *)chain->down)->is_stopped;
+  PyObject *at = chain->at;
+  return at && (Py_TYPE(at) == leaf_type ? ((Leaf *)at)->is_stopped : ((Root *)at)->is_stopped);
 }
 /* An item through functions, until one ends what they stand at: a new reference to what comes out; NULL where nothing does, with `failed` -1
  * where that is raised. */
@@ -636,7 +636,7 @@ static int chain_tell(struct Mine *here, Chain *chain, PyObject *value) {
   PyObject *it = through(chain, value, &failed);
   if (!it) return failed;
   if (chain->leaf) failed = note(here, chain->leaf, CELLAR_NEXT, it);
-  else if (chain->down_next) failed = plain(CALL1(chain->down_next, it));
+  else if (chain->down_next) failed = is_over(chain) ? 0 : plain(CALL1(chain->down_next, it));
   else if (!((Root *)chain->down)->is_stopped) failed = plain(CALL1(((Root *)chain->down)->on_next, it));
   Py_DECREF(it);
   return failed;
@@ -692,7 +692,10 @@ static int chain_init(Chain *self, PyObject *given, PyObject *Py_UNUSED(named)) 
   if (Py_TYPE(down) == leaf_type) self->leaf = (Leaf *)down;
   else if (!is_a(down, root_type) && !(self->down_next = PyObject_GetAttr(down, s_on_next))) return -1;
   if (self->down_next) self->leaf = leaf_of(self->down_next);
-  if (self->down_next && !self->leaf && !(self->relay = PyObject_GetAttrString(down, "node_is"))) PyErr_Clear();
+  PyObject *at = self->leaf ? new_of((PyObject *)self->leaf) : self->down_next ? PyObject_GetAttrString(down, "node_is") : new_of(down);
+  if (!at) PyErr_Clear();
+  else if (Py_TYPE(at) == leaf_type || is_a(at, root_type)) self->at = at;
+  else Py_DECREF(at);
   return 0;
 }
 /* What create() gives, and timers have, `emits`: from anywhere, and it is told before the call ends. */
@@ -708,20 +711,20 @@ static PyObject *chain_error(Chain *self, PyObject *error) { return chain_tells(
 static PyObject *chain_completed(Chain *self, PyObject *Py_UNUSED(unused)) { return chain_tells(self, s_on_completed, NULL); }
 static PyObject *chain_dispose(Chain *Py_UNUSED(self), PyObject *Py_UNUSED(unused)) { Py_RETURN_NONE; }
 static PyObject *chain_is_stopped(Chain *self, void *Py_UNUSED(unused)) {
-  if (!self->emits && self->down_next && !self->leaf && !self->relay) return PyObject_GetAttrString(self->down, "is_stopped");
+  if (!self->emits && !self->at) return PyObject_GetAttrString(self->down, "is_stopped");
   return PyBool_FromLong(self->emits ? self->emits->is_stopped : is_over(self));
 }
 static PyMethodDef chain_methods[] = {{"on_next", (PyCFunction)chain_next, METH_O, NULL}, {"on_error", (PyCFunction)chain_error, METH_O, NULL},
                                       {"on_completed", (PyCFunction)chain_completed, METH_NOARGS, NULL}, {"dispose", (PyCFunction)chain_dispose, METH_NOARGS, NULL}, {NULL, NULL, 0, NULL}};
-static PyMemberDef chain_members[] = {{"down", T_OBJECT, offsetof(Chain, down), READONLY, NULL}, {NULL, 0, 0, 0, NULL}};
+static PyMemberDef chain_members[] = {{"down", T_OBJECT, offsetof(Chain, down), READONLY, NULL}, {"node_is", T_OBJECT, offsetof(Chain, at), READONLY, NULL}, {NULL, 0, 0, 0, NULL}};
 static PyGetSetDef leaf_getset[] = {{"alone", (getter)alone, NULL, NULL, NULL}, {NULL, NULL, NULL, NULL, NULL}};
 static PyGetSetDef chain_getset[] = {{"is_stopped", (getter)chain_is_stopped, NULL, NULL, NULL}, {NULL, NULL, NULL, NULL, NULL}};
 static int chain_traverse(Chain *self, visitproc visit, void *arg) {
-  Py_VISIT(Py_TYPE(self)); Py_VISIT(self->down); Py_VISIT(self->down_next); Py_VISIT(self->steps); Py_VISIT(self->relay); Py_VISIT(self->emits);
+  Py_VISIT(Py_TYPE(self)); Py_VISIT(self->down); Py_VISIT(self->down_next); Py_VISIT(self->steps); Py_VISIT(self->at); Py_VISIT(self->emits);
   return 0;
 }
 static int chain_clear(Chain *self) {
-  Py_CLEAR(self->down); Py_CLEAR(self->down_next); Py_CLEAR(self->steps); Py_CLEAR(self->relay); Py_CLEAR(self->emits);
+  Py_CLEAR(self->down); Py_CLEAR(self->down_next); Py_CLEAR(self->steps); Py_CLEAR(self->at); Py_CLEAR(self->emits);
   self->leaf = NULL, self->many = 0;
   return 0;
 }
@@ -1290,7 +1293,7 @@ static PyObject *pull(PyObject *Py_UNUSED(module), PyObject *const *given, Py_ss
   for (unsigned count = 1; !leaf->is_stopped; count++) {
     PyObject *value = PyIter_Next(given[2]);
     if (!value) return PyErr_Occurred() ? NULL : new_of(Py_True);
-    int status = tell_up(here, given[0], value);
+    int status = leaf->is_stopped ? 0 : tell_up(here, given[0], value);
     drop(value, status);
     if (status || PyErr_CheckSignals()) return NULL;
     if (!(count & 4095)) { /* where neither side is Python, no other thread would come */

@@ -392,6 +392,26 @@ class Small(Case):
         subject.on_next("item")
         self.assertEqual(opened, [(1, "item")])
 
+    def test_no_function_is_called_behind_one_that_closes_all(self):
+        """Whatever stands between the two, and whichever source calls them."""
+        betweens = ((), (ops.scan(lambda _, it: it),), (ops.take_while(lambda _: True), ops.filter(lambda _: True)), (ops.pairwise(), ops.pairwise()))
+        behinds = ops.map, ops.do_action, ops.filter, ops.take_while, lambda call: ops.scan(lambda _, it: call(it), 0), lambda call: ops.some(lambda it: not call(it))
+        for between in betweens:
+            for behind in behinds:
+                for wrap in ops.flat_map(rx.just), ops.to_list(), ops.pairwise(), ops.zip(rx.never()), ops.take(9):
+                    for items in lambda test: rx.generate(0, test, lambda it: it + 1), lambda test: rx.of(0, 1, 2).pipe(ops.map(lambda it: test(it) and it)):
+                        start, called, subscription = Subject(), [], []
+
+                        def closes(it):
+                            called.append(it)
+                            if it == 2:
+                                subscription[0].dispose()
+                            return it < 3
+                        source = start.pipe(ops.flat_map(lambda _: items(closes).pipe(*between, behind(lambda it: called.append(("behind", it)) or True), wrap)))
+                        subscription.append(source.subscribe())
+                        start.on_next(1)
+                        self.assertEqual(called[-1], 2)
+
     def test_a_notifier_that_completed_says_nothing_and_holds_nothing(self):
         clock, told, left = TestScheduler(), [], []
         late = rx.empty().pipe(ops.timeout_with_mapper(rx.timer(0.5, scheduler=clock), None, rx.of(3)))

@@ -27,6 +27,11 @@ class Stage:
         """Whether what it stands at is over, as far as can be seen: for who tells several items."""
         return bool(getattr(self.down, "is_stopped", False))
 
+    @property
+    def node_is(self) -> Any:
+        """The leaf or the root that it stands at, if that can be seen: for functions before it."""
+        return self.down if isinstance(self.down, (Leaf, Root)) else getattr(self.down, "node_is", None)
+
     def start(self) -> None:
         """Before the source is subscribed to."""
 
@@ -74,6 +79,8 @@ def chained(makes: Makes, down: Any) -> Any:
             run: List[Any] = list(makes[at:end])[::-1]
             down, at = C.Chain(down, bytes(it.kind for it in run), tuple(it.function for it in run)), end
         else:
+            if isinstance(down, Stage):
+                down = C.Chain(down, b"", ())  # where the one before closes all, the one behind it is not called
             down, at = makes[at](down), at + 1
             down.start()
     return down
@@ -234,14 +241,14 @@ def linked(core: Observable[Any], at: At, makes: Makes) -> None:
 class _Last:
     """What the last function tells: items at once, and an end once what the root held is released, before anything takes its place."""
 
-    __slots__ = ("_up", "_root", "on_next")
+    __slots__ = ("node_is", "_root", "on_next")
 
     def __init__(self, up: Any, root: Any):
-        self._up, self._root, self.on_next = up, root, up.on_next
+        self.node_is, self._root, self.on_next = up, root, up.on_next
 
     @property
     def is_stopped(self) -> bool:
-        return bool(self._up.is_stopped)
+        return bool(self.node_is.is_stopped)
 
     def _let_go(self) -> None:
         is_over = self._root.is_over  # then its end is what its lane tells, and its releases stand behind that
@@ -251,11 +258,11 @@ class _Last:
 
     def on_error(self, error: Exception) -> None:
         self._let_go()
-        self._up.on_error(error)
+        self.node_is.on_error(error)
 
     def on_completed(self) -> None:
         self._let_go()
-        self._up.on_completed()
+        self.node_is.on_completed()
 
 
 class Indexed:

@@ -169,10 +169,10 @@ def _dispose(timer: Any) -> None:
 class _Last:
     """What the last function behind an operator tells."""
 
-    __slots__ = ("on_next", "_link")
+    __slots__ = ("on_next", "node_is", "_link")
 
     def __init__(self, link: Link):
-        self.on_next, self._link = link.leaf.on_next, link
+        self.on_next, self.node_is, self._link = link.leaf.on_next, link.leaf, link
 
     @property
     def is_stopped(self) -> bool:

@@ -529,13 +529,13 @@ class Chain:
     def __init__(self, down: Any, kinds: bytes, steps: Tuple[Any, ...], emits: Optional[Leaf] = None):
         self.down, self._steps, self._emits = down, tuple(zip(kinds, steps)), emits
         at = down if isinstance(down, (Leaf, Root)) else getattr(down.on_next, "__self__", None)
-        self._at = at if isinstance(at, (Leaf, Root)) else getattr(down, "node_is", None)
+        self.node_is = at if isinstance(at, (Leaf, Root)) else getattr(down, "node_is", None)
 
     def through(self, value: Any) -> Any:
         """What comes out, in a tuple; None where nothing does. Behind one that ends what they stand at no function is called."""
         try:
             for kind, function in self._steps:
-                if self._at is not None and self._at.is_stopped:
+                if self._is_over():
                     return None
                 if kind == 0:
                     value = function(value)
@@ -544,11 +544,14 @@ class Chain:
         except Exception as error:
             self.down.on_error(error)
             return None
-        return (value,)
+        return None if self._is_over() else (value,)
+
+    def _is_over(self) -> bool:
+        return self.node_is is not None and self.node_is.is_stopped
 
     @property
     def is_stopped(self) -> bool:
-        of = self._emits or self._at or self.down
+        of = self._emits or self.node_is or self.down
         return bool(of.is_stopped)
 
     def _tells(self, tell: Callable[..., Any], *given: Any) -> None:

@@ -1,6 +1,7 @@
 """Sources of items that are there: of an iterable, or one value."""
 from __future__ import annotations
 
+from functools import partial
 from typing import Any, Callable, Iterable
 
 from .._engine import At, C
@@ -63,14 +64,15 @@ class Stepwise(Observable[Any]):
 
         def step() -> bool:
             """Whether there is more."""
+            value = end = None
             try:
                 value = next(items)
             except StopIteration:
-                up.on_completed()
+                end = up.on_completed
             except Exception as error:
-                up.on_error(error)
-            else:
-                up.on_next(value)
+                end = partial(up.on_error, error)
+            if not leaf.is_stopped:  # a function of the items may have closed it
+                up.on_next(value) if end is None else end()
             return not leaf.is_stopped
 
         def go_on() -> None:
