@@ -109,14 +109,17 @@ static unsigned generation;
 typedef struct { Core *core; struct cellar_stack stack; } Turn;
 /* What a telling puts back as it ends: what is told further out, what sources put off till that is told, and whether its lane is let go for them. */
 typedef struct { Turn telling; PyObject *put_off; int lets_go; } Telling;
-/* What a call of the package puts back as it ends: how many turns are further out than itself, and what comes behind these. */
-typedef struct { uint64_t floor; PyObject *behind; } Outer;
+/* What a call of the package puts back as it ends: how many turns are further out than itself, what comes behind these, and of which engine closings are
+ * heard. */
+typedef struct { uint64_t floor; PyObject *behind; Core *closing; } Outer;
 
 /* This thread: how deep it is in calls of the package, what was raised meanwhile; the innermost turn, that of which an effect is told, how many
- * are further out than the innermost call of the package, and what comes behind the others; and what sources put off: till the call further
- * out goes on, or behind what is told; then its lane may be let go. */
+ * are further out than the innermost call of the package, and what comes behind the others; the engine of which closings are heard by that call, and
+ * whether something waits for the last of them; and what sources put off: till the call further out goes on, or behind what is told; then its lane may
+ * be let go. */
 static _Thread_local struct Mine {
-  int depth, is_closing, lets_go;
+  int depth, is_late, lets_go;
+  Core *closing;
   uint64_t ident, floor;
   PyObject *errors, *trampoline, *put_off, *behind;
   Turn turn, telling;
@@ -225,8 +228,8 @@ static int caught(uint64_t by) {
 }
 static struct Mine *enter(Outer *outer) {
   struct Mine *here = here_is();
-  *outer = (Outer){here->floor, here->behind};
-  here->depth++, here->floor = here->turn.stack.depth, here->behind = NULL;
+  *outer = (Outer){here->floor, here->behind, here->closing};
+  here->depth++, here->floor = here->turn.stack.depth, here->behind = NULL, here->closing = NULL;
   return here;
 }
 /* The end of a call. The outermost raises the first of what observers and releases raised, unless something is raised already, or the
@@ -234,7 +237,7 @@ static struct Mine *enter(Outer *outer) {
 static int tell_left(struct Mine *);
 static int leave(struct Mine *here, const Outer *outer, int failed, int is_quiet) {
   if (here->depth == 1 && !failed && PyList_Size(left)) failed = tell_left(here);
-  here->floor = outer->floor, here->behind = outer->behind;
+  here->floor = outer->floor, here->behind = outer->behind, here->closing = outer->closing;
   if (--here->depth || !here->errors) return failed;
   PyObject *errors = here->errors, *first = failed ? caught_one() : NULL;
   here->errors = NULL;
@@ -441,11 +444,12 @@ static void disown(Leaf *leaf) {
   Py_CLEAR(owner->all);
   if (PyDict_DelItem(owner->ups, (PyObject *)leaf)) PyErr_Clear();
 }
-/* Tells those that closed, the first first: only the outermost does, so that nothing recurses. */
+static int go_through(Core *, int);
+/* Tells those that closed, the first first. What one of them closes is heard behind the others, so nothing recurses; what that came to, behind all. */
 static int hear_closed(Core *core) {
-  int status = 0;
-  if (mine.is_closing) return 0;
-  mine.is_closing = 1;
+  int status = 0, was_late = mine.is_late, is_late;
+  Core *outer = mine.closing;
+  mine.closing = core, mine.is_late = 0;
   while (!status && core->many) {
     PyObject *it = word(core->closed[core->first]);
     Leaf *leaf = (Leaf *)ITEM(it, 1);
@@ -459,13 +463,14 @@ static int hear_closed(Core *core) {
     Py_CLEAR(leaf->above);
     let_go_word(core, it, &leaf->owed);
   }
-  mine.is_closing = 0;
-  return status;
+  is_late = mine.is_late, mine.is_late = was_late, mine.closing = outer;
+  return status || !is_late ? status : go_through(core, 0);
 }
 /* Closings first. An interrupt leaves the rest to the next call that reaches the engine. */
 static int do_all(struct Mine *here, struct cellar_stepped *s) {
   Core *core = here->turn.core;
   if (core->generation != generation) return 0;
+  if (here->closing == core) return here->is_late |= (int)s->handed, 0;
   int status = core->many ? hear_closed(core) : 0;
   if (!status && s->handed) status = do_each(here, s);
   if (status && core->generation == generation) calls.stop(&core->engine, &here->turn.stack), PyList_Append(left, (PyObject *)core);
@@ -586,7 +591,6 @@ static int note_alone(struct Mine *here, Leaf *leaf, uint8_t what, PyObject *val
   if (leaf->way == ALONE) return tell_alone(here, leaf, what, value);
   return wait(here, leaf, what, value) ? -1 : tell_waiting(here, leaf, 0);
 }
-static int go_through(Core *, int);
 static int tell_left(struct Mine *here) {
   int status = 0;
   while (!status && PyList_Size(left)) {

@@ -412,6 +412,19 @@ class Small(Case):
                         start.on_next(1)
                         self.assertEqual(called[-1], 2)
 
+    def test_no_function_is_called_behind_the_release_that_one_closing_comes_to(self):
+        joins = ops.zip(rx.never()), ops.exclusive(), ops.publish(lambda it: it), ops.take_until(rx.never())
+        for inner in ((), *((it,) for it in joins[::2])):
+            for outer in ((), *((it,) for it in joins), (joins[0], joins[2])):
+                subject, log = Subject(), []
+
+                def release():
+                    log.append("release")
+                    subject.on_next(2)
+                held = rx.using(lambda: Disposable(release), lambda _: subject.pipe(ops.map(log.append), *inner))
+                held.pipe(*outer).subscribe().dispose()
+                self.assertEqual(log, ["release"])
+
     def test_a_notifier_that_completed_says_nothing_and_holds_nothing(self):
         clock, told, left = TestScheduler(), [], []
         late = rx.empty().pipe(ops.timeout_with_mapper(rx.timer(0.5, scheduler=clock), None, rx.of(3)))

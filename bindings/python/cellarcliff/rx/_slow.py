@@ -33,7 +33,8 @@ class _Mine(threading.local):
     """This thread: see `mine` in engine.c."""
 
     outermost: Any = None  # the frame of the call that is furthest out
-    is_closing = False
+    closing: Any = None    # the engine of which closings are heard, and whether something waits for the last of them
+    is_late = False
     telling: Any = None    # the stack of which an effect is being told, and how deep that stands
     behind: Optional[Deque[Callable[[], Any]]] = None  # what comes behind the outermost of the turns under way, if there is one
     errors: Optional[List[BaseException]] = None
@@ -66,12 +67,14 @@ def _runs(frame: Any) -> bool:
 
 
 def _enter(frame: Any) -> Any:
-    """Whether this call is the outermost of its thread; and what comes behind the turns further out, since it has turns of its own."""
+    """Whether this call is the outermost of its thread; and what comes behind the turns further out, and the engine of which closings are heard, since it
+    has turns of its own."""
     is_outermost = not _runs(mine.outermost)
     if is_outermost:
-        mine.outermost, mine.is_closing, mine.telling, mine.behind, mine.errors, mine.put_off_ = frame, False, None, None, None, None
-    behind, mine.behind = mine.behind, None
-    return is_outermost, behind
+        mine.outermost, mine.closing, mine.telling, mine.behind, mine.errors, mine.put_off_ = frame, None, None, None, None, None
+    outer = is_outermost, mine.behind, mine.closing
+    mine.behind = mine.closing = None
+    return outer
 
 
 def _queue() -> Optional[Deque[Callable[[], Any]]]:
@@ -80,7 +83,7 @@ def _queue() -> Optional[Deque[Callable[[], Any]]]:
 
 
 def _leave(entered: Any, error: Optional[BaseException], is_quiet: bool = False) -> None:
-    is_outermost, mine.behind = entered
+    is_outermost, mine.behind, mine.closing = entered
     if is_outermost:
         mine.outermost, errors, mine.errors = None, mine.errors, None
         for it in errors or ():
@@ -156,6 +159,9 @@ class Core:
             if mine.behind is None:
                 behind = mine.behind = deque()
             status, answer, handed = make(stack, *given)
+            if mine.closing is self:
+                mine.is_late = mine.is_late or bool(handed[HANDED])
+                return status, answer
             if self._closed:
                 self._hear_closed()
             if handed[HANDED]:
@@ -235,9 +241,8 @@ class Core:
             mine.telling, mine.put_off_, mine.lets_go = before
 
     def _hear_closed(self) -> None:
-        if mine.is_closing:
-            return
-        mine.is_closing = True
+        """What one that closed closes is heard behind the others, and what that came to is told behind all."""
+        outer, mine.closing, mine.is_late = (mine.closing, mine.is_late), self, False
         try:
             while self._closed:
                 try:
@@ -258,7 +263,10 @@ class Core:
                 finally:
                     self._count(word, -1)
         finally:
-            mine.is_closing = False
+            is_late = mine.is_late
+            mine.closing, mine.is_late = outer
+        if is_late:
+            self.serve_left()
 
     def _tell(self, user: int, value: int, kind: int, carries: int) -> None:
         thing, item = self.things[user], self.things[value] if carries and value else None
