@@ -375,6 +375,20 @@ class Small(Case):
                 wrap(rx.of(1, 2, 3).pipe(last, ops.do_action(seen.append), ops.map(lambda it: 1 // 0))).subscribe(None, told.append)
                 self.assertEqual((seen, len(told)), ([1], 1))
 
+    def test_what_an_exchange_releases_puts_another_in_its_place(self):
+        within = (), (ops.finally_action(lambda: None),), (lambda it: rx.defer(lambda _: it),), (ops.take_until(rx.never()),), (ops.flat_map(rx.just),)
+        for operators in within:
+            subject, log = Subject(), []
+
+            def resource(it):
+                log.append(("open", it))
+                return Disposable(lambda: (log.append(("close", it)), subject.on_next(3) if it == 1 else None))
+            subscription = subject.pipe(ops.flat_map_latest(lambda it: rx.using(lambda: resource(it), lambda _: rx.never()).pipe(*operators))).subscribe()
+            subject.on_next(1)
+            subject.on_next(2)
+            subscription.dispose()
+            self.assertEqual(log, [("open", 1), ("close", 1), ("open", 3), ("close", 3)])
+
     def test_an_item_as_old_as_the_span_is_one_of_the_last(self):
         clock, subject, told = TestScheduler(), Subject(), []
         subject.pipe(ops.take_last_with_time(0.5, scheduler=clock)).subscribe(told.append)

@@ -84,17 +84,23 @@ class Engine:
         self.core = C.Core(max_events)
         self._process, self._calls = os.getpid(), None  # type: Any, Any
 
-    def open(self, at: At, kind: int, close: Any = None, project: Optional[Callable[[Any], Any]] = None, *first: Any) -> Any:
+    def open(self, at: At, kind: int, close: Any = None, project: Optional[Callable[[Any], Any]] = None, *first: Any, what: int = OPEN,
+             release: Any = None) -> Any:
         """Opens a node: `close` is a leaf that stops as it closes, or what is called then; `project` is given what a FlatMap or Switch
-        is to project; `first` is an item of the leaf, which stands in its lane before anything is told."""
+        is to project; `first` is an item of the leaf, which stands in its lane before anything is told; `release` is called as its resource.
+        Raises Refused("Gone") where what gives way here releases something that puts another in its place: nothing is made for that."""
         root = at.root
+        if close is None and at.is_exchange:
+            close = Leaf(self.core)
         if close is not None:
             if type(close) is not Leaf:
                 call, close = close, Leaf(self.core)
                 close.on_closed = call
             close.above, at.holder = at.holder, close
-        what = OPEN | at.place << 8 | kind << 16 | (at.flags | (WISHES if close is not None else 0)) << 24
-        at.node = self.core.open(what, at.above, None if root is close is project is None else (root, close, project), None, at.is_exchange, *first)
+        what |= at.place << 8 | kind << 16 | (at.flags | (WISHES if close is not None else 0)) << 24
+        at.node = self.core.open(what, at.above, None if root is close is project is None else (root, close, project), release, at.is_exchange, *first)
+        if at.is_exchange and close.is_stopped:
+            refuse(GONE)
         return at.node
 
     def source(self, at: At, holds: bool = False) -> Any:
@@ -121,10 +127,7 @@ class Engine:
 
     def finally_(self, at: At, action: Callable[[], Any]) -> At:
         """Opens a node, as whose resource this is called: the place below it."""
-        root = at.root
-        at.node = self.core.open(USING | at.place << 8 | at.flags << 24, at.above, None if root is None else (root, None, None), action,
-                                 at.is_exchange)
-        return at.inside(at.node)
+        return at.inside(self.open(at, LEAF, what=USING, release=action))
 
     def hold(self, node: Any, call: Callable[..., Any], *given: Any) -> Any:
         """Calls this, and lets the node hold what it answers; where the node is closed that is released at once."""
