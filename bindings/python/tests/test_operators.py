@@ -535,6 +535,19 @@ class Operators(unittest.TestCase):
                 subscription.dispose()
         self.each(test)
 
+    def test_a_group_whose_duration_is_over_as_it_begins(self):
+        """It hears no item."""
+        def test(k):
+            failed = k.Subject()
+            failed.on_error(ERROR)
+            for duration in k.rx.empty(), k.rx.of(1), k.rx.range(3), k.rx.throw(ERROR), failed, k.rx.merge(failed, k.rx.never()):
+                source, told = k.Subject(), []
+                groups = source.pipe(k.ops.group_by_until(lambda it: it, None, lambda _: duration))
+                groups.subscribe(lambda it: it.subscribe(told.append, told.append, lambda: told.append("completed")), told.append)
+                source.on_next(1)
+                self.assertIn(told, (["completed"], [ERROR, ERROR]))
+        self.each(test)
+
 
 if __name__ == "__main__":
     unittest.main()

@@ -4,10 +4,9 @@ A window, or a group, outlives the operator's observer: the source is left once 
 """
 from __future__ import annotations
 
-from functools import partial
-from typing import Any, Callable, Dict, List, Optional
+from typing import Any, Callable, Dict, List, Optional, Sequence
 
-from .._engine import At
+from .._engine import At, C
 from .._link import Link, Linked
 from .._observable import Observable, to_observable
 from .._typing import Operator, Scheduler, Span
@@ -149,6 +148,16 @@ class SomeBuffer(Buffer):
             super().on_completed()
 
 
+def each(parts: Sequence[Any], tell: Callable[[Any], Any]) -> None:
+    """Tells each of these, also where an observer of one is interrupted."""
+    for at, it in enumerate(parts):
+        try:
+            tell(it)
+        except BaseException:
+            each(parts[at + 1:], tell)
+            raise
+
+
 class _Open:
     """The parts that are open, and what ends them all."""
 
@@ -156,19 +165,17 @@ class _Open:
         self.link, self.parts = link, []  # type: Parted, List[Any]
 
     def on_next(self, value: Any) -> None:
-        for it in tuple(self.parts):
-            it.on_next(value)
+        each(tuple(self.parts), lambda it: it.on_next(value))
 
     def on_error(self, error: Exception) -> None:
-        for it in self.parts:
-            it.on_error(error)
-        self.link.on_error(error)
+        self._end(lambda it: it.on_error(error))
 
     def on_completed(self) -> None:
+        self._end(lambda it: it.on_completed())
+
+    def _end(self, tell: Callable[[Any], Any]) -> None:
         parts, self.parts = self.parts, []
-        for it in parts:
-            it.on_completed()
-        self.link.on_completed()
+        each((*parts, self.link), tell)
 
     def close_first(self) -> None:
         self.parts.pop(0).on_completed()
@@ -418,55 +425,82 @@ def buffer_with_time_or_count(timespan: Span, count: int, scheduler: Optional[Sc
     return lambda source: _by_time_or_count(source, timespan, count, scheduler, Buffer)
 
 
+class _Group:
+    """A group, whose items wait as it is made for what its duration tells as it is subscribed to."""
+
+    def __init__(self, link: Parted, subject: Any):
+        self.link, self.subject = link, subject
+        self._waiting: Optional[List[Any]] = None
+
+    def on_next(self, value: Any) -> None:
+        if self._waiting is None:
+            self.link.tell(self.subject, lambda: self.subject.on_next(value))
+        else:
+            self._waiting.append(value)
+
+    def wait(self) -> None:
+        self._waiting = []
+
+    def go_on(self) -> None:
+        waiting, self._waiting = self._waiting, None
+        each(waiting or (), self.on_next)
+
+
 def group_by_until(key_mapper: Callable[[Any], Any], element_mapper: Optional[Callable[[Any], Any]],
                    duration_mapper: Optional[Callable[[Any], Any]], subject_mapper: Optional[Callable[[], Any]] = None) -> Operator[Any]:
     """A group for each key, until the observable that the function answers of it tells something."""
     def operate(source: Any) -> Observable[Any]:
         def run(link: Any) -> None:
-            groups: Dict[Any, Any] = {}
+            groups: Dict[Any, _Group] = {}
+
+            def end(tell: Callable[[Any], Any]) -> None:
+                those = [it.subject for it in groups.values()]
+                groups.clear()
+                try:
+                    each(those, lambda it: link.tell(it, lambda: tell(it)))
+                finally:
+                    tell(link)
 
             def fail(error: Exception) -> None:
-                for it in tuple(groups.values()):
-                    link.tell(it, partial(it.on_error, error))
-                groups.clear()
-                link.on_error(error)
+                end(lambda it: it.on_error(error))
 
-            def make(key: Any) -> Any:
-                subject = groups[key] = subject_mapper() if subject_mapper else Subject()
+            def make(key: Any) -> _Group:
+                subject = subject_mapper() if subject_mapper else Subject()
+                group = groups[key] = _Group(link, subject)
                 duration = duration_mapper(GroupedObservable(key, subject)) if duration_mapper else None
-                link.on_next(GroupedObservable(key, subject, link))
-                if duration is not None:
-                    expire(key, subject, duration)
-                return subject
+                try:
+                    link.on_next(GroupedObservable(key, subject, link))
+                finally:
+                    if duration is not None:
+                        expire(key, group, duration)
+                return group
 
-            def expire(key: Any, subject: Any, duration: Any) -> None:
+            def expire(key: Any, group: _Group, duration: Any) -> None:
                 held: List[Any] = []
 
                 def due(*_: Any) -> None:
                     for it in held:
                         link.drop(it)
-                    if groups.get(key) is subject:
+                    if groups.get(key) is group:
                         del groups[key]
-                        link.tell(subject, subject.on_completed)
-                held.append(link.subscribe(duration, due, fail, due))
+                        link.tell(group.subject, group.subject.on_completed)
+                group.wait()
+                try:
+                    held.append(link.subscribe(duration, due, fail, due))
+                finally:
+                    C.fed(C.put_off, lambda: link.later(group.go_on))  # as what the duration tells is put off
 
             def on_next(value: Any) -> None:
                 try:
                     key = key_mapper(value)
-                    subject = groups[key] if key in groups else None if link.is_stopped else make(key)
+                    group = groups[key] if key in groups else None if link.is_stopped else make(key)
                     element = value if element_mapper is None else element_mapper(value)
                 except Exception as error:
                     fail(error)
                     return
-                if subject is not None:
-                    link.tell(subject, lambda: subject.on_next(element))
-
-            def on_completed() -> None:
-                for it in tuple(groups.values()):
-                    link.tell(it, it.on_completed)
-                groups.clear()
-                link.on_completed()
-            link.subscribe(source, on_next, fail, on_completed)
+                if group is not None:
+                    group.on_next(element)
+            link.subscribe(source, on_next, fail, lambda: end(lambda it: it.on_completed()))
         return PartedBy(run, source, name="group_by")
     return operate
 
