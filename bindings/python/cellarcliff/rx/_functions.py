@@ -50,6 +50,36 @@ class Stage:
         down.on_error(error)
 
 
+def tell_last(down: Any, value: Any) -> None:
+    """Tells an item, and the completion behind it, unless it is stopped: also where who hears the item is interrupted, which is nobody's fault."""
+    try:
+        down.on_next(value)
+    except Exception:
+        raise
+    except BaseException:
+        if not down.is_stopped:
+            down.on_completed()
+        raise
+    if not down.is_stopped:
+        down.on_completed()
+
+
+def tell_those(down: Any, values: List[Any]) -> None:
+    """The same of several items, as long as they are heard."""
+    while len(values) > 1 and not down.is_stopped:
+        try:
+            down.on_next(values.pop(0))
+        except Exception:
+            raise
+        except BaseException:
+            tell_those(down, values)
+            raise
+    if values and not down.is_stopped:
+        tell_last(down, values.pop())
+    else:
+        down.on_completed()
+
+
 class _Deaf:
     is_stopped = True
     on_next = on_error = on_completed = staticmethod(noop)

@@ -4,7 +4,7 @@ from __future__ import annotations
 import sys
 from typing import Any, Callable, List, Optional, Tuple
 
-from .._functions import ENDING, HEARING, PLAIN, Fn, Indexed, Make, Stage
+from .._functions import ENDING, HEARING, PLAIN, Fn, Indexed, Make, Stage, tell_last
 from .._observable import Observable, to_observable
 from .._notification import Notification, OnCompleted, OnError, OnNext
 from .._typing import B, Operator, same
@@ -34,9 +34,11 @@ class _TakeWhile(Stage):
         except Exception as error:
             self.fail(error)
             return
-        if passes or self._inclusive:
+        if passes:
             self.down.on_next(value)
-        if not passes:
+        elif self._inclusive:
+            tell_last(self.down, value)
+        else:
             self.down.on_completed()
 
 
@@ -53,10 +55,10 @@ class _Take(Stage):
     def on_next(self, value: Any) -> None:
         if self._left:
             self._left -= 1
-            is_last = not self._left
-            self.down.on_next(value)
-            if is_last:
-                self.down.on_completed()
+            if self._left:
+                self.down.on_next(value)
+            else:
+                tell_last(self.down, value)
 
 
 class _Skip(Stage):
@@ -179,12 +181,10 @@ class _Materialize(Stage):
         self.down.on_next(OnNext(value))
 
     def on_error(self, error: Exception) -> None:
-        self.down.on_next(OnError(error))
-        self.down.on_completed()
+        tell_last(self.down, OnError(error))
 
     def on_completed(self) -> None:
-        self.down.on_next(OnCompleted())
-        self.down.on_completed()
+        tell_last(self.down, OnCompleted())
 
 
 class _Dematerialize(Stage):
@@ -219,8 +219,9 @@ class _DefaultIfEmpty(Stage):
 
     def on_completed(self) -> None:
         if self._is_empty:
-            self.down.on_next(self._default)
-        self.down.on_completed()
+            tell_last(self.down, self._default)
+        else:
+            self.down.on_completed()
 
 
 def _at_least(count: int, name: str, least: int = 0) -> None:

@@ -5,6 +5,7 @@ from collections import deque
 from typing import TYPE_CHECKING, Any, Callable, Deque, Iterable, Iterator, List, Optional, Tuple
 
 from .._engine import C
+from .._functions import tell_last
 from .._link import Link, Linked
 from .._observable import Observable, to_observable
 from .._typing import B, Operator, same
@@ -147,9 +148,11 @@ def zipped(sources: Tuple[Any, ...]) -> Observable[Any]:
             def on_next(value: Any) -> None:
                 queues[i].append(value)
                 if all(queues):
-                    link.on_next(tuple([it.popleft() for it in queues]))
+                    values = tuple([it.popleft() for it in queues])
                     if any(is_done and not queue for is_done, queue in zip_(done, queues)):
-                        link.on_completed()
+                        tell_last(link, values)
+                    else:
+                        link.on_next(values)
 
             def on_completed() -> None:
                 done[i] = True
@@ -261,8 +264,7 @@ def joined_last(sources: Tuple[Any, ...]) -> Observable[Any]:
                 if values[i] is NOTHING:
                     link.on_completed()
                 elif all(done):
-                    link.on_next(tuple(values))
-                    link.on_completed()
+                    tell_last(link, tuple(values))
             return lambda value: values.__setitem__(i, value), None, on_completed
         for i, it in enumerate(sources):
             link.subscribe(it, *hear(i))
@@ -435,10 +437,12 @@ def sampled(source: Any, sampler: Any) -> Observable[Any]:
 
         def sample(*_: Any) -> None:
             value, latest[0] = latest[0], NOTHING
-            if value is not NOTHING:
-                link.on_next(value)
-            if is_done:
+            if is_done and value is not NOTHING:
+                tell_last(link, value)
+            elif is_done:
                 link.on_completed()
+            elif value is not NOTHING:
+                link.on_next(value)
         sampler_done = False
 
         def sampler_completed() -> None:
@@ -460,10 +464,6 @@ def sequence_equal(second: Any, comparer: Optional[Callable[[Any, Any], Any]] = 
             queues: List[Deque[Any]] = [deque(), deque()]
             done = [False, False]
 
-            def answer(is_equal: bool) -> None:
-                link.on_next(is_equal)
-                link.on_completed()
-
             def hear(i: int) -> Any:
                 def on_next(value: Any) -> None:
                     if queues[1 - i]:
@@ -474,9 +474,9 @@ def sequence_equal(second: Any, comparer: Optional[Callable[[Any, Any], Any]] = 
                             link.on_error(error)
                             return
                         if not is_equal:
-                            answer(False)
+                            tell_last(link, False)
                     elif done[1 - i]:
-                        answer(False)
+                        tell_last(link, False)
                     else:
                         queues[i].append(value)
 
@@ -484,9 +484,9 @@ def sequence_equal(second: Any, comparer: Optional[Callable[[Any, Any], Any]] = 
                     done[i] = True
                     if not queues[i]:
                         if queues[1 - i]:
-                            answer(False)
+                            tell_last(link, False)
                         elif done[1 - i]:
-                            answer(True)
+                            tell_last(link, True)
                 return on_next, None, on_completed
             link.subscribe(source, *hear(0))
             link.subscribe(second, *hear(1))

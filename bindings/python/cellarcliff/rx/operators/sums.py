@@ -3,7 +3,7 @@ from __future__ import annotations
 
 from typing import Any, Callable, Dict, List, Optional, Set
 
-from .._functions import HEARING, Fn, Stage
+from .._functions import HEARING, Fn, Stage, tell_last, tell_those
 from .._typing import B, Operator, same
 from ..internal import ArgumentOutOfRangeException, SequenceContainsNoElementsError
 from .items import NOTHING, filter, map
@@ -32,8 +32,9 @@ class _AtEnd(Stage):
             self.fail(error)
             return
         if it is not NOTHING:
-            self.down.on_next(it)
-        self.down.on_completed()
+            tell_last(self.down, it)
+        else:
+            self.down.on_completed()
 
 
 class _Found(Stage):
@@ -54,8 +55,7 @@ class _Found(Stage):
             return
         if it is not NOTHING:
             self._is_done = True
-            self.down.on_next(it)
-            self.down.on_completed()
+            tell_last(self.down, it)
 
     def on_completed(self) -> None:
         if self._is_done:
@@ -65,8 +65,7 @@ class _Found(Stage):
         except Exception as error:
             self.fail(error)
         else:
-            self.down.on_next(it)
-            self.down.on_completed()
+            tell_last(self.down, it)
 
 
 def _at_end(start: Callable[[], Any], add: Callable[[List[Any], Any], Any], result: Callable[[List[Any]], Any]) -> Operator[Any]:
@@ -331,11 +330,9 @@ class _TakeLast(Stage):
 
     def on_completed(self) -> None:
         if self._is_one:
-            self.down.on_next(self._queue)
+            tell_last(self.down, self._queue)
         else:
-            while self._queue and not self.is_stopped:
-                self.down.on_next(self._queue.pop(0))
-        self.down.on_completed()
+            tell_those(self.down, self._queue)
 
 
 @same

@@ -6,7 +6,7 @@ from datetime import datetime, timedelta
 from typing import Any, Callable, Deque, List, NamedTuple, Optional
 
 from .._engine import C
-from .._functions import HEARING, PLAIN, Fn, Stage
+from .._functions import HEARING, PLAIN, Fn, Stage, tell_those
 from .._link import Link, Linked
 from .._observable import Observable, to_observable
 from .._typing import Due, Operator, Scheduler, Span, same
@@ -55,9 +55,7 @@ def debounce(duetime: Span, scheduler: Optional[Scheduler] = None) -> Operator[A
             def on_completed() -> None:
                 timer.dispose()
                 last, latest[0] = latest[0], NOTHING
-                if last is not NOTHING:
-                    link.on_next(last[0])
-                link.on_completed()
+                tell_those(link, [] if last is NOTHING else last)
             link.subscribe(source, on_next, None, on_completed)
         return Linked(run, source, name="debounce")
     return operate
@@ -96,9 +94,7 @@ def throttle_with_mapper(throttle_duration_mapper: Callable[[Any], Any]) -> Oper
 
             def on_completed() -> None:
                 last, latest[0] = latest[0], NOTHING
-                if last is not NOTHING:
-                    link.on_next(last[0])
-                link.on_completed()
+                tell_those(link, [] if last is NOTHING else last)
             link.subscribe(source, on_next, None, on_completed)
         return Linked(run, source, name="throttle_with_mapper")
     return operate
@@ -139,11 +135,12 @@ def delay(duetime: Span, scheduler: Optional[Scheduler] = None) -> Operator[Any]
                     timer.disposable = link.schedule(clk, span, due)
 
             def due() -> None:
-                while queue and queue[0][0] <= clk.now and not link.is_stopped:
-                    queue[0][1]()
-                    queue.popleft()
-                if queue and not link.is_stopped:
-                    timer.disposable = link.schedule(clk, max(timedelta(0), queue[0][0] - clk.now), due)
+                try:
+                    while queue and queue[0][0] <= clk.now and not link.is_stopped:
+                        queue.popleft()[1]()
+                finally:
+                    if queue and not link.is_stopped:
+                        timer.disposable = link.schedule(clk, max(timedelta(0), queue[0][0] - clk.now), due)
             link.subscribe(source, lambda value: put(lambda: link.on_next(value)), None, lambda: put(link.on_completed), scheduler=clk)
         return Linked(run, source, name="delay")
     return operate
@@ -190,10 +187,12 @@ def delay_with_mapper(subscription_delay: Any = None, delay_duration_mapper: Opt
                     if not state[0]:
                         state[0] = True
                         many -= 1
-                        link.on_next(value)
-                        for it in root:
-                            link.drop(it)
-                        finish()
+                        try:
+                            link.on_next(value)
+                        finally:
+                            for it in root:
+                                link.drop(it)
+                            finish()
                 root.append(link.subscribe(duration, due, None, due))
                 if state[0]:
                     link.drop(root[0])
@@ -247,9 +246,11 @@ def timeout(duetime: Due, other: Any = None, scheduler: Optional[Scheduler] = No
 
             def on_next(value: Any) -> None:
                 if won():
-                    link.on_next(value)
-                    if not link.is_stopped:
-                        set_timer()
+                    try:
+                        link.on_next(value)
+                    finally:
+                        if not link.is_stopped:
+                            set_timer()
 
             def on_error(error: Exception) -> None:
                 if won():
@@ -289,7 +290,12 @@ def timeout_with_mapper(first_timeout: Any = None, timeout_duration_mapper: Opti
                 if turn[0] < 0:
                     return
                 turn[0] += 1
-                link.on_next(value)
+                try:
+                    link.on_next(value)
+                finally:
+                    go_on(value)
+
+            def go_on(value: Any) -> None:
                 try:
                     duration = timeout_duration_mapper(value) if timeout_duration_mapper else None
                 except Exception as error:
@@ -325,7 +331,12 @@ def observe_on(scheduler: Scheduler) -> Operator[Any]:
 
             def go_on(*_: Any) -> None:
                 """One note each time, by the scheduler."""
-                C.call(tell)
+                try:
+                    C.call(tell)
+                finally:
+                    follow()
+
+            def follow() -> None:
                 if queue and not link.is_stopped:
                     timer.disposable = scheduler.schedule(go_on)
                 else:
@@ -469,11 +480,9 @@ class _LastOf(Stage):
         now = self._clock.now
         if self._is_skip:
             self._trim(now)
+            self.down.on_completed()
         else:
-            for at, value in self._queue:
-                if now - at <= self._span and not self.is_stopped:
-                    self.down.on_next(value)
-        self.down.on_completed()
+            tell_those(self.down, [value for at, value in self._queue if now - at <= self._span])
 
 
 @same

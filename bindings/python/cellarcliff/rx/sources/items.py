@@ -5,7 +5,7 @@ from functools import partial
 from typing import Any, Callable, Iterable
 
 from .._engine import At, C
-from .._functions import chained
+from .._functions import chained, tell_last
 from .._observable import Observable
 from ..disposable import MultipleAssignmentDisposable
 
@@ -105,9 +105,7 @@ class Called(Scheduled):
         except Exception as error:
             up.on_error(error)
         else:
-            up.on_next(value)
-            if not leaf.is_stopped:
-                up.on_completed()
+            tell_last(up, value)
 
 
 class Just(Scheduled):
@@ -117,6 +115,4 @@ class Just(Scheduled):
         self._value, self.scheduler = value, scheduler
 
     def _emit(self, up: Any, leaf: Any) -> None:
-        up.on_next(self._value)
-        if not leaf.is_stopped:
-            up.on_completed()
+        tell_last(up, self._value)
