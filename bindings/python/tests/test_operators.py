@@ -546,6 +546,11 @@ class Operators(unittest.TestCase):
                 groups.subscribe(lambda it: it.subscribe(told.append, told.append, lambda: told.append("completed")), told.append)
                 source.on_next(1)
                 self.assertIn(told, (["completed"], [ERROR, ERROR]))
+            for many in range(3):
+                told = []
+                groups = k.rx.range(many).pipe(k.ops.group_by_until(lambda it: it, None, lambda _: k.rx.never()), k.ops.flat_map(lambda it: it))
+                groups.subscribe(told.append, None, lambda: told.append("completed"))
+                self.assertEqual(told, [*range(many), "completed"])
         self.each(test)
 
 

@@ -69,13 +69,15 @@ class InLane(Asked):
         if isinstance(self.by, Connection) and self.by.inner is None:
             self.by.inner = Lane()
         self.lane = self.inner = Lane() if self.by is None else self.by.inner
-        self.is_composition, self.is_node, self.goes_on, self.exchanges, self.behind = False, False, None, False, []
+        self.is_composition, self.is_node, self.is_linked, self.goes_on, self.exchanges, self.behind = False, False, False, None, False, []
         self.is_noted = self.stands_below_a_node()
 
     def takes_marks(self, source):
         super().takes_marks(source)
-        for it in "is_composition", "is_node", "goes_on", "exchanges":
+        for it in "is_composition", "is_node", "is_linked", "goes_on", "exchanges":
             setattr(self, it, getattr(source, it, getattr(self, it)))
+        if self.is_noted and isinstance(source, Subject) and self.tells_a_linked_one():
+            self.is_noted, self.lane = False, Lane()
         if self.is_composition or getattr(source, "is_create", False):
             self.inner = Lane(True)
 
@@ -88,6 +90,15 @@ class InLane(Asked):
             it = it.by
             if it.is_node:
                 return True
+        return False
+
+    def tells_a_linked_one(self):
+        """Whether a function with a state, or that hears of ends, is among those that it tells: these have a lane of their own."""
+        it = self.by
+        while it is not None and not it.is_node and not it.is_composition:
+            if it.is_linked:
+                return True
+            it = it.by
         return False
 
     def told(self, call):
@@ -290,17 +301,32 @@ COMPOSED = {
                       "skipuntil._skip_until sample._sample sequenceequal._sequence_equal"}
 
 
+def of_the_engine(make):
+    """An operator that is a node, unless a composition is made of it."""
+    whole = marked("is_node")(make)
+    return lambda *given, **more: (make if composed.is_within else whole)(*given, **more)
+
+
 def bounded(make):
     """merge() has subscriptions of its own where it has a bound, and goes on with the next."""
     whole = composed(marked("goes_on", "completes")(make))
     return lambda *sources, max_concurrent=None: (make if max_concurrent is None else whole)(*sources, max_concurrent=max_concurrent)
 
 
+#: Functions with a state, or that hear of ends.
+LINKED = "scan._scan take._take takewhile._take_while takewhile._take_while_indexed skip._skip skipwhile._skip_while skiplast._skip_last pairwise._pairwise " \
+         "distinct._distinct distinctuntilchanged._distinct_until_changed materialize._materialize dematerialize._dematerialize " \
+         "defaultifempty._default_if_empty toset._to_set todict._to_dict elementatordefault._element_at_or_default find._find_value " \
+         "firstordefault._first_or_default_async lastordefault._last_or_default singleordefault._single_or_default_async takelast._take_last " \
+         "takelastbuffer._take_last_buffer takelastwithtime._take_last_with_time skiplastwithtime._skip_last_with_time some._some do._do_action minby._min_by " \
+         "maxby._max_by toiterable._to_iterable filter._filter_indexed map._map_indexed timestamp._timestamp timeinterval._time_interval"
+
+
 IN_LANES = [
     *NOTHING_BEHIND_THE_END, ("core.operators.publish", "_publish", published), ("core.operators.connectable.refcount", "_ref_count", counted), (Asked, "of", lambda _: InLane),
     *[(f"core.operators.{it}", "Subject", lambda _: Part) for it in ("window", "windowwithcount", "windowwithtime", "windowwithtimeorcount", "groupbyuntil", "groupjoin")],
     *[(Subject, f"on_{it}", told_to_all) for it in ("next", "error", "completed")], ("core.operators.merge", "_merge", bounded),
-    *[(f"core.{it}", name, marked("is_node")) for it, name in (
+    *[(f"core.{it}", name, of_the_engine) for it, name in (
         ("observable.using", "_using"), ("observable.defer", "_defer"), ("operators.merge", "_merge_all"), ("operators.switchlatest", "_switch_latest"),
         ("observable.concat", "_concat_with_iterable"), ("operators.finallyaction", "_finally_action"), ("operators.takeuntil", "_take_until"))],
     ("core.operators.flatmap", "_flat_map_internal", projected), ("core.operators.flatmap", "_flat_map_latest", projected),
@@ -308,4 +334,5 @@ IN_LANES = [
     ("core.observable.catch", "_catch_with_iterable", marked("goes_on", "fails")), ("core.operators.catch", "_catch", marked("goes_on", "fails")),
     ("core.observable.onerrorresumenext", "_on_error_resume_next", marked("goes_on", "ends")),
     *[(f"core.operators.timeout{it}", f"_timeout{under}", behind_all) for it, under in (("", ""), ("withmapper", "_with_mapper"))], (ScheduledItem, "__init__", scheduled_in_lane),
-    *[(f"{place}.{it.split('.')[0]}", it.split(".")[1], composed) for place, those in COMPOSED.items() for it in those.split()]]
+    *[(f"{place}.{it.split('.')[0]}", it.split(".")[1], composed) for place, those in COMPOSED.items() for it in those.split()],
+    *[(f"core.operators.{it.split('.')[0]}", it.split(".")[1], marked("is_linked")) for it in LINKED.split()]]

@@ -8,7 +8,7 @@ from .._link import Link, Linked
 from .._observable import Observable, to_observable
 from .._typing import Operator, same
 
-from .joined import InTurn
+from .joined import Concat, InTurn
 
 
 def caught(sources: Any) -> Observable[Any]:
@@ -70,7 +70,5 @@ def while_do(condition: Callable[[Any], bool]) -> Operator[Any]:
 @same
 def do_while(condition: Callable[[Any], bool]) -> Operator[Any]:
     """The source, and again while the condition holds behind it."""
-    def operate(source: Any) -> Observable[Any]:
-        source = to_observable(source)
-        return InTurn(lambda: itertools.chain([source], itertools.takewhile(condition, itertools.repeat(source))), True, False, (source,))
-    return operate
+    again = while_do(condition)
+    return lambda source: Concat((to_observable(source), again(source)))

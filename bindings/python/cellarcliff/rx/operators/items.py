@@ -403,7 +403,7 @@ def ignore_elements() -> Operator[Any]:
 @same
 def as_observable() -> Operator[Any]:
     """The same, and nothing else of the source."""
-    return lambda source: Fn(source, Stage, PLAIN)
+    return map()
 
 
 @same

@@ -441,9 +441,18 @@ class _Group:
     def wait(self) -> None:
         self._waiting = []
 
+    def forget(self) -> None:
+        self._waiting = None
+
     def go_on(self) -> None:
         waiting, self._waiting = self._waiting, None
         each(waiting or (), self.on_next)
+
+    def end(self, tell: Callable[[Any], Any]) -> None:
+        try:
+            self.go_on()
+        finally:
+            self.link.tell(self.subject, lambda: tell(self.subject))
 
 
 def group_by_until(key_mapper: Callable[[Any], Any], element_mapper: Optional[Callable[[Any], Any]],
@@ -454,10 +463,10 @@ def group_by_until(key_mapper: Callable[[Any], Any], element_mapper: Optional[Ca
             groups: Dict[Any, _Group] = {}
 
             def end(tell: Callable[[Any], Any]) -> None:
-                those = [it.subject for it in groups.values()]
+                those = tuple(groups.values())
                 groups.clear()
                 try:
-                    each(those, lambda it: link.tell(it, lambda: tell(it)))
+                    each(those, lambda it: it.end(tell))
                 finally:
                     tell(link)
 
@@ -483,12 +492,21 @@ def group_by_until(key_mapper: Callable[[Any], Any], element_mapper: Optional[Ca
                         link.drop(it)
                     if groups.get(key) is group:
                         del groups[key]
-                        link.tell(group.subject, group.subject.on_completed)
+                        group.forget()
+                        group.end(lambda it: it.on_completed())
+
+                def failed(error: Exception) -> None:
+                    group.forget()
+                    fail(error)
+                is_alone = C.queue() is None
                 group.wait()
                 try:
-                    held.append(link.subscribe(duration, due, fail, due))
+                    held.append(link.subscribe(duration, due, failed, due))
                 finally:
-                    C.fed(C.put_off, lambda: link.later(group.go_on))  # as what the duration tells is put off
+                    if is_alone:  # what the duration tells may be put off till then
+                        C.fed(C.put_off, lambda: link.later(group.go_on))
+                    else:
+                        link.later(group.go_on)
 
             def on_next(value: Any) -> None:
                 try:
