@@ -59,7 +59,7 @@ def rows_of(program):
 
 
 #: What tells as it is subscribed to, whatever is at work, and operators that subscribe to another as they are at work.
-AT_ONCE = set("expand timeout timeout_with_mapper replay replay_counted replay_of publish_value publish_value_counted publish_value_of BehaviorSubject ReplaySubject".split())
+AT_ONCE = set("expand expand_none timeout timeout_with_mapper replay replay_counted replay_of publish_value publish_value_counted publish_value_of BehaviorSubject ReplaySubject".split())
 
 
 def telling_at_once(program):

@@ -100,7 +100,7 @@ def connected_for_all(connect):
 class Connection:
     """For whom the source of a connectable is subscribed to: for no observer."""
 
-    is_stopped = is_past = outlives = has_ended = exchanges = is_node = is_linked = is_composition = False
+    is_stopped = is_past = outlives = has_ended = exchanges = is_node = is_around = is_linked = is_composition = False
     by, inner, goes_on = None, None, "connection"
 
 

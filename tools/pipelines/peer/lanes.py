@@ -69,12 +69,13 @@ class InLane(Asked):
         if isinstance(self.by, Connection) and self.by.inner is None:
             self.by.inner = Lane()
         self.lane = self.inner = Lane() if self.by is None else self.by.inner
-        self.is_composition, self.is_node, self.is_linked, self.goes_on, self.exchanges, self.behind = False, False, False, None, False, []
+        self.is_composition = self.is_node = self.is_around = self.is_linked = self.exchanges = False
+        self.goes_on, self.behind = None, []
         self.is_noted = self.stands_below_a_node()
 
     def takes_marks(self, source):
         super().takes_marks(source)
-        for it in "is_composition", "is_node", "is_linked", "goes_on", "exchanges":
+        for it in "is_composition", "is_node", "is_around", "is_linked", "goes_on", "exchanges":
             setattr(self, it, getattr(source, it, getattr(self, it)))
         if self.is_noted and isinstance(source, Subject) and self.tells_a_linked_one():
             self.is_noted, self.lane = False, Lane()
@@ -82,8 +83,11 @@ class InLane(Asked):
             self.inner = Lane(True)
 
     def stands_below_a_node(self):
-        """Whether it tells a function on items that stands below a node: that is called as the item is noted, before anybody is told."""
+        """Whether it tells a function on items that stands below a node, perhaps through one that adds nothing: that is called as the item is noted,
+        before anybody is told."""
         it = self.by
+        while it is not None and it.is_around:
+            it = it.by
         if it is None or it.by is None or it.is_node or it.is_composition:
             return False
         while it.by is not None and not it.by.is_composition:
@@ -95,7 +99,7 @@ class InLane(Asked):
     def tells_a_linked_one(self):
         """Whether a function with a state, or that hears of ends, is among those that it tells: these have a lane of their own."""
         it = self.by
-        while it is not None and not it.is_node and not it.is_composition:
+        while it is not None and (it.is_around or not it.is_node) and not it.is_composition:
             if it.is_linked:
                 return True
             it = it.by
@@ -301,9 +305,11 @@ COMPOSED = {
                       "skipuntil._skip_until sample._sample sequenceequal._sequence_equal"}
 
 
-def of_the_engine(make):
+def of_the_engine(make, *more):
     """An operator that is a node, unless a composition is made of it."""
     whole = marked("is_node")(make)
+    for it in more:
+        whole = marked(it)(whole)
     return lambda *given, **more: (make if composed.is_within else whole)(*given, **more)
 
 
@@ -327,8 +333,10 @@ IN_LANES = [
     *[(f"core.operators.{it}", "Subject", lambda _: Part) for it in ("window", "windowwithcount", "windowwithtime", "windowwithtimeorcount", "groupbyuntil", "groupjoin")],
     *[(Subject, f"on_{it}", told_to_all) for it in ("next", "error", "completed")], ("core.operators.merge", "_merge", bounded),
     *[(f"core.{it}", name, of_the_engine) for it, name in (
-        ("observable.using", "_using"), ("observable.defer", "_defer"), ("operators.merge", "_merge_all"), ("operators.switchlatest", "_switch_latest"),
-        ("observable.concat", "_concat_with_iterable"), ("operators.finallyaction", "_finally_action"), ("operators.takeuntil", "_take_until"))],
+        ("operators.merge", "_merge_all"), ("operators.switchlatest", "_switch_latest"), ("observable.concat", "_concat_with_iterable"),
+        ("operators.takeuntil", "_take_until"))],
+    *[(f"core.{it}", name, lambda make: of_the_engine(make, "is_around")) for it, name in (
+        ("observable.using", "_using"), ("observable.defer", "_defer"), ("operators.finallyaction", "_finally_action"))],
     ("core.operators.flatmap", "_flat_map_internal", projected), ("core.operators.flatmap", "_flat_map_latest", projected),
     ("core.operators.switchlatest", "_switch_latest", marked("exchanges")), (rx, "create", marked("is_create")), ("core.observable.concat", "_concat_with_iterable", marked("goes_on", "completes")),
     ("core.observable.catch", "_catch_with_iterable", marked("goes_on", "fails")), ("core.operators.catch", "_catch", marked("goes_on", "fails")),

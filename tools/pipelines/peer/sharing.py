@@ -9,7 +9,7 @@ from rx.subject import Subject
 class Hub(ConnectableObservable):
     """publish(), which remembers no end: who comes behind that waits for the next connection."""
 
-    asker = types.SimpleNamespace(is_stopped=False, is_past=False, outlives=False, has_ended=False, by=None, inner=None, goes_on=None, exchanges=False, is_node=False, is_linked=False, is_composition=False)
+    asker = types.SimpleNamespace(is_stopped=False, is_past=False, outlives=False, has_ended=False, by=None, inner=None, goes_on=None, exchanges=False, is_node=False, is_around=False, is_linked=False, is_composition=False)
 
     def __init__(self, source):
         super().__init__(source, Subject())
