@@ -18,6 +18,7 @@ class Stage:
     """A function on items on their way: told by what is above it, it tells `down`."""
 
     __slots__ = ("down",)
+    calls = False  # whether it calls a function of the user's
 
     def __init__(self, down: Any):
         self.down = down
@@ -100,18 +101,19 @@ class Make:
 
 def chained(makes: Makes, down: Any) -> Any:
     """What the source tells, the functions being listed from the observer's side; the outermost starts first."""
-    at = 0
+    at, calls = 0, False  # whether a stage below calls a function of the user's
     while at < len(makes):
         end = at
         while end < len(makes) and type(makes[end]) is Make:
             end += 1
         if end > at:
             run: List[Any] = list(makes[at:end])[::-1]
-            down, at = C.Chain(down, bytes(it.kind for it in run), tuple(it.function for it in run)), end
+            down, at, calls = C.Chain(down, bytes(it.kind for it in run), tuple(it.function for it in run)), end, False
         else:
-            if isinstance(down, Stage):
-                down = C.Chain(down, b"", ())  # where the one before closes all, the one behind it is not called
-            down, at = makes[at](down), at + 1
+            stage, at = makes[at](down), at + 1
+            if stage.calls and calls:
+                stage.down = C.Chain(down, b"", ())  # where the one above closes all, that below is not called
+            down, calls = stage, stage.calls or calls
             down.start()
     return down
 

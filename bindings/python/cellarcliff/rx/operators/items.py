@@ -17,6 +17,7 @@ class Function(Stage):
     """A stage with a function."""
 
     __slots__ = ("_function",)
+    calls = True
 
     def __init__(self, down: Any, function: Callable[..., Any]):
         self.down, self._function = down, function
@@ -24,6 +25,7 @@ class Function(Stage):
 
 class _TakeWhile(Stage):
     __slots__ = ("_predicate", "_inclusive")
+    calls = True
 
     def __init__(self, down: Any, predicate: Callable[[Any], Any], inclusive: bool):
         self.down, self._predicate, self._inclusive = down, predicate, inclusive
@@ -107,6 +109,7 @@ class _SkipLast(Stage):
 
 class _Do(Stage):
     __slots__ = ("_on_next", "_on_error", "_on_completed")
+    calls = True
 
     def __init__(self, down: Any, on_next: Any, on_error: Any, on_completed: Any):
         self.down, self._on_next, self._on_error, self._on_completed = down, on_next, on_error, on_completed
@@ -152,6 +155,7 @@ class _Pairwise(Stage):
 
 class _Distinct(Stage):
     __slots__ = ("_key", "_comparer", "_seen", "_is_latest")
+    calls = True
 
     def __init__(self, down: Any, key: Any, comparer: Any, is_latest: bool):
         self.down, self._key, self._comparer, self._is_latest = down, key, comparer, is_latest

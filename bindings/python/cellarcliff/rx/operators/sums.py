@@ -15,6 +15,7 @@ class _AtEnd(Stage):
     """Hears all, and tells what they come to: `add` each, `result` at the end, an item or an error or nothing."""
 
     __slots__ = ("_add", "_result")
+    calls = True
 
     def __init__(self, down: Any, add: Callable[[Any], Any], result: Callable[[], Any]):
         self.down, self._add, self._result = down, add, result
@@ -41,6 +42,7 @@ class _Found(Stage):
     """Tells the first item that is found, and else a default or an error."""
 
     __slots__ = ("_find", "_default", "_is_done")
+    calls = True
 
     def __init__(self, down: Any, find: Callable[[Any], Any], default: Callable[[], Any]):
         self.down, self._find, self._default, self._is_done = down, find, default, False

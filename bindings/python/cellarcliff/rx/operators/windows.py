@@ -26,15 +26,15 @@ class Parted(Link):
         self._many, self._is_left, self._behind = 0, False, 0
         super().__init__(at, makes)
 
-    def tell(self, subject: Any, call: Callable[[], Any]) -> None:
+    def tell(self, subject: Any, call: Callable[..., Any], *given: Any) -> None:
         """Tells a part something, by this call: behind the part itself, where that may not be told yet."""
         if self.is_stopped or not self._behind and getattr(subject, "_ups", None):
-            call()
+            call(*given)
             return
 
         def told() -> None:
             try:
-                call()
+                call(*given)
             finally:
                 self._behind -= 1
         self._behind += 1
@@ -115,10 +115,10 @@ class Window:
         link.on_next(GroupedObservable(None, self.subject, link))
 
     def on_next(self, value: Any) -> None:
-        self.link.tell(self.subject, lambda: self.subject.on_next(value))
+        self.link.tell(self.subject, self.subject.on_next, value)
 
     def on_error(self, error: Exception) -> None:
-        self.link.tell(self.subject, lambda: self.subject.on_error(error))
+        self.link.tell(self.subject, self.subject.on_error, error)
 
     def on_completed(self) -> None:
         self.link.tell(self.subject, self.subject.on_completed)
@@ -165,7 +165,11 @@ class _Open:
         self.link, self.parts = link, []  # type: Parted, List[Any]
 
     def on_next(self, value: Any) -> None:
-        each(tuple(self.parts), lambda it: it.on_next(value))
+        parts = self.parts
+        if len(parts) == 1:
+            parts[0].on_next(value)
+        else:
+            each(tuple(parts), lambda it: it.on_next(value))
 
     def on_error(self, error: Exception) -> None:
         self._end(lambda it: it.on_error(error))
@@ -434,7 +438,7 @@ class _Group:
 
     def on_next(self, value: Any) -> None:
         if self._waiting is None:
-            self.link.tell(self.subject, lambda: self.subject.on_next(value))
+            self.link.tell(self.subject, self.subject.on_next, value)
         else:
             self._waiting.append(value)
 
@@ -452,7 +456,7 @@ class _Group:
         try:
             self.go_on()
         finally:
-            self.link.tell(self.subject, lambda: tell(self.subject))
+            self.link.tell(self.subject, tell, self.subject)
 
 
 def group_by_until(key_mapper: Callable[[Any], Any], element_mapper: Optional[Callable[[Any], Any]],

@@ -1,7 +1,6 @@
 """Sources of items that are there: of an iterable, or one value."""
 from __future__ import annotations
 
-from functools import partial
 from typing import Any, Callable, Iterable
 
 from .._engine import At, C
@@ -64,16 +63,21 @@ class Stepwise(Observable[Any]):
 
         def step() -> bool:
             """Whether there is more."""
-            value = end = None
             try:
                 value = next(items)
             except StopIteration:
-                end = up.on_completed
+                end(up.on_completed)
+                return False
             except Exception as error:
-                end = partial(up.on_error, error)
-            if not leaf.is_stopped:  # a function of the items may have closed it
-                up.on_next(value) if end is None else end()
+                end(up.on_error, error)
+                return False
+            if not leaf.is_stopped:
+                up.on_next(value)
             return not leaf.is_stopped
+
+        def end(tell: Callable[..., Any], *error: Exception) -> None:
+            if not leaf.is_stopped:  # a function of the items may have closed it
+                tell(*error)
 
         def go_on() -> None:
             while not leaf.is_stopped and step():
