@@ -58,27 +58,31 @@ def tell_last(down: Any, value: Any) -> None:
     except Exception:
         raise
     except BaseException:
-        if not down.is_stopped:
-            down.on_completed()
+        _tell_rest(down, [])
         raise
     if not down.is_stopped:
         down.on_completed()
 
 
 def tell_those(down: Any, values: List[Any]) -> None:
-    """The same of several items, as long as they are heard."""
-    while len(values) > 1 and not down.is_stopped:
-        try:
+    """The same of several items, or of none, as long as they are heard."""
+    try:
+        while values and not down.is_stopped:
             down.on_next(values.pop(0))
-        except Exception:
-            raise
-        except BaseException:
-            tell_those(down, values)
-            raise
-    if values and not down.is_stopped:
-        tell_last(down, values.pop())
-    else:
+    except Exception:
+        raise
+    except BaseException:
+        _tell_rest(down, values)
+        raise
+    if not down.is_stopped:
         down.on_completed()
+
+
+def _tell_rest(down: Any, values: List[Any]) -> None:
+    try:
+        tell_those(down, values)
+    except Exception as error:
+        C.raised(error)
 
 
 class _Deaf:

@@ -555,7 +555,7 @@ class Chain:
         return None if self._is_over() else (value,)
 
     def _is_over(self) -> bool:
-        return self.node_is is not None and self.node_is.is_stopped
+        return self.node_is is not None and bool(self.node_is.is_stopped)
 
     @property
     def is_stopped(self) -> bool:
