@@ -476,16 +476,22 @@ static int do_all(struct Mine *here, struct cellar_stepped *s) {
   if (status && core->generation == generation) calls.stop(&core->engine, &here->turn.stack), PyList_Append(left, (PyObject *)core);
   return status;
 }
-/* Each of what comes behind, also where something was interrupted. */
+/* Each of what comes behind, also where something was interrupted; and then what sources put off meanwhile, unless somebody else goes on with that. */
 static int do_behind(struct Mine *here, int failed) {
-  PyObject *error = failed ? caught_one() : NULL, *behind = here->behind;
+  PyObject *error = failed ? caught_one() : NULL, *behind = here->behind, *before = here->trampoline;
+  PyObject *queue = before || here->telling.core ? NULL : PyList_New(0);
   here->behind = NULL;
+  if (queue) here->trampoline = queue;
   for (Py_ssize_t i = 0; i < PyList_Size(behind); i++)
     if (plain(CALL0(PyList_GetItem(behind, i))) && caught(here->ident)) {
       if (error) PyErr_Clear();
       else error = caught_one();
     }
+  while (!error && is_some(queue))
+    if (go_on(queue) && caught(here->ident)) error = caught_one();
+  here->trampoline = before;
   Py_DECREF(behind);
+  Py_XDECREF(queue);
   return error ? raise_again(error) : 0;
 }
 

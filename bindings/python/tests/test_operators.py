@@ -553,6 +553,27 @@ class Operators(unittest.TestCase):
                 self.assertEqual(told, [*range(many), "completed"])
         self.each(test)
 
+    def test_what_follows_in_two_subscriptions_interleaves(self):
+        """As their sources do: also where a timer subscribes."""
+        def test(k):
+            failed, clock = k.Subject(), k.TestScheduler()
+            failed.on_error(ERROR)
+            for make in (lambda *those: those[1], k.rx.catch, k.rx.on_error_resume_next, lambda *those: k.rx.concat(k.rx.empty(), those[1])):
+                told = []
+
+                def begin(_):
+                    for name in "ab":
+                        make(failed, k.rx.range(2)).subscribe(lambda it, name=name: told.append((name, it)))
+                    return k.rx.empty()
+                k.rx.of(1).pipe(k.ops.delay_subscription(0.5, scheduler=clock), k.ops.flat_map(begin)).subscribe()
+                clock.advance_by(1)
+                self.assertEqual(told, [("a", 0), ("b", 0), ("a", 1), ("b", 1)])
+            first = []
+            k.rx.amb(k.rx.from_callable(lambda: 1).pipe(k.ops.flat_map(k.rx.just)), k.rx.empty().pipe(k.ops.do_while(lambda _: 1 // 0))).subscribe(
+                first.append, first.append)
+            self.assertEqual(first, [1])
+        self.each(test)
+
 
 if __name__ == "__main__":
     unittest.main()

@@ -177,7 +177,10 @@ class Core:
             stack[DEPTH] = depth
             if behind is not None:
                 mine.behind = None
-                _do(behind)
+                if mine.telling is None:
+                    trampolined(_do, behind)
+                else:
+                    _do(behind)
 
     def make(self, stack: Any, words: Tuple[int, ...], value: int = 0, known: Any = None, is_exchange: bool = False) -> Any:
         """Makes a command: the status, the answer, and what is handed out. `known` is called with the answer, before anything is told."""
