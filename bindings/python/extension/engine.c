@@ -476,20 +476,19 @@ static int do_all(struct Mine *here, struct cellar_stepped *s) {
   if (status && core->generation == generation) calls.stop(&core->engine, &here->turn.stack), PyList_Append(left, (PyObject *)core);
   return status;
 }
-/* Each of what comes behind, also where something was interrupted; and then what sources put off meanwhile, unless somebody else goes on with that. */
+/* Each of what comes behind, also where something was interrupted; and then what would have been put off, a tuple, unless somebody else goes on with that. */
 static int do_behind(struct Mine *here, int failed) {
-  PyObject *error = failed ? caught_one() : NULL, *behind = here->behind, *before = here->trampoline;
-  PyObject *queue = before || here->telling.core ? NULL : PyList_New(0);
+  PyObject *error = failed ? caught_one() : NULL, *behind = here->behind, *queue = here->trampoline || here->telling.core ? NULL : PyList_New(0);
   here->behind = NULL;
-  if (queue) here->trampoline = queue;
-  for (Py_ssize_t i = 0; i < PyList_Size(behind); i++)
-    if (plain(CALL0(PyList_GetItem(behind, i))) && caught(here->ident)) {
+  for (Py_ssize_t i = 0; i < PyList_Size(behind); i++) {
+    PyObject *it = PyList_GetItem(behind, i), *call = PyTuple_Check(it) ? ITEM(it, 0) : it;
+    if ((it != call && queue ? PyList_Append(queue, call) : plain(CALL0(call))) && caught(here->ident)) {
       if (error) PyErr_Clear();
       else error = caught_one();
     }
+  }
   while (!error && is_some(queue))
     if (go_on(queue) && caught(here->ident)) error = caught_one();
-  here->trampoline = before;
   Py_DECREF(behind);
   Py_XDECREF(queue);
   return error ? raise_again(error) : 0;
@@ -1287,8 +1286,10 @@ static PyObject *raised(PyObject *Py_UNUSED(module), PyObject *error) {
 /* Calls this behind all that the turns under way come to, of the innermost call of the package: so what they release is released. */
 static PyObject *behind(PyObject *Py_UNUSED(module), PyObject *call) {
   if (mine.turn.stack.depth == mine.floor) return none_or_null(plain(CALL0(call)));
-  if (!mine.behind && !(mine.behind = PyList_New(0))) return NULL;
-  return none_or_null(PyList_Append(mine.behind, call));
+  PyObject *it = mine.trampoline ? PyTuple_Pack(1, call) : new_of(call);
+  if (!it || (!mine.behind && !(mine.behind = PyList_New(0)))) return NULL;
+  int status = PyList_Append(mine.behind, it);
+  return Py_DECREF(it), none_or_null(status);
 }
 /* Tells what stands behind what is told to a root: of one that has ended, what it held. */
 static PyObject *finish(PyObject *Py_UNUSED(module), PyObject *root) {

@@ -36,7 +36,7 @@ class _Mine(threading.local):
     closing: Any = None    # the engine of which closings are heard, and whether something waits for the last of them
     is_late = False
     telling: Any = None    # the stack of which an effect is being told, and how deep that stands
-    behind: Optional[Deque[Callable[[], Any]]] = None  # what comes behind the outermost of the turns under way, if there is one
+    behind: Optional[Deque[Any]] = None  # what comes behind the outermost of the turns under way, if there is one
     errors: Optional[List[BaseException]] = None
     trampoline: Optional[Deque[Callable[[], Any]]] = None
     runner: Any = None     # the frame of who goes on with that
@@ -177,10 +177,10 @@ class Core:
             stack[DEPTH] = depth
             if behind is not None:
                 mine.behind = None
-                if mine.telling is None:
-                    trampolined(_do, behind)
-                else:
-                    _do(behind)
+                queue: Any = deque() if mine.telling is None and _queue() is None else None
+                _do(behind, queue)
+                while queue:
+                    _go_on(queue)
 
     def make(self, stack: Any, words: Tuple[int, ...], value: int = 0, known: Any = None, is_exchange: bool = False) -> Any:
         """Makes a command: the status, the answer, and what is handed out. `known` is called with the answer, before anything is told."""
@@ -389,17 +389,23 @@ class Core:
         return tuple(self.calls.totals()) if self._generation == _generation[0] else (0,) * 8
 
 
-def _do(calls: Deque[Callable[[], Any]]) -> None:
-    """Each of these, also where one is interrupted."""
+def _do(calls: Deque[Any], queue: Any) -> None:
+    """Each of these, also where one is interrupted; what would have been put off, a tuple, goes into the queue, if there is one."""
     try:
         while calls:
+            it = calls.popleft()
             try:
-                calls.popleft()()
+                if type(it) is not tuple:
+                    it()
+                elif queue is None:
+                    it[0]()
+                else:
+                    queue.append(it[0])
             except Exception as error:
                 _caught(error, get_ident())
     finally:
         if calls:
-            _do(calls)
+            _do(calls, queue)
 
 
 def _release(thing: Any) -> None:
@@ -783,7 +789,7 @@ def raised(error: Exception) -> None:
 
 def behind(act: Callable[[], Any]) -> None:
     """Calls this behind all that the turns under way come to: so what they release is released."""
-    act() if mine.behind is None else mine.behind.append(act)
+    act() if mine.behind is None else mine.behind.append(act if _queue() is None else (act,))
 
 
 def finish(root: Root) -> None:
