@@ -148,7 +148,7 @@ class Core:
         """Makes commands, by this function, and does what is handed out: the status, and the answer, of the last."""
         if self._generation != _generation[0]:
             return GONE, []
-        own, behind = self._own, None
+        own, behind, is_done = self._own, None, False
         stack, frames = own.words, own.frames
         while frames and not _runs(frames[-1]):  # it was interrupted as it ended
             frames.pop()
@@ -166,6 +166,7 @@ class Core:
                 self._hear_closed()
             if handed[HANDED]:
                 self._serve(stack, handed)
+            is_done = True
             return status, answer
         except BaseException:
             if self._generation == _generation[0]:
@@ -179,8 +180,11 @@ class Core:
                 mine.behind = None
                 queue: Any = deque() if mine.telling is None and _queue() is None else None
                 _do(behind, queue)
-                while queue:
-                    _go_on(queue)
+                while is_done and queue:
+                    try:
+                        _go_on(queue)
+                    except Exception as error:
+                        _caught(error, get_ident())
 
     def make(self, stack: Any, words: Tuple[int, ...], value: int = 0, known: Any = None, is_exchange: bool = False) -> Any:
         """Makes a command: the status, the answer, and what is handed out. `known` is called with the answer, before anything is told."""
