@@ -12,7 +12,7 @@ from rx.scheduler import ImmediateScheduler
 from .. import programs
 from .ended import NOTHING_BEHIND_THE_END
 from .lanes import IN_LANES
-from .operators import by_order, delay_subscription, delayed, hands_on, sampled, skip_until, zipped
+from .operators import at_once, by_order, delay_subscription, delayed, hands_on, sampled, skip_until, zipped
 from .sharing import connected, counted, published
 
 
@@ -38,7 +38,8 @@ ROWS = [
         (f"core.operators.{it}", "default_sub_comparer", by_order) for it in ("minby", "maxby")]),
     ("delay_with_mapper tells an item once", "delay_with_mapper", [("core.operators.delaywithmapper", "_delay_with_mapper", delayed)]),
     ("delay_subscription tells at once", "delay_subscription", [("core.operators.delaysubscription", "_delay_subscription", delay_subscription)]),
-    ("a replay tells at once", "replay replay_counted replay_of ReplaySubject", [("subject.replaysubject", "CurrentThreadScheduler", lambda _: ImmediateScheduler)]),
+    ("a replay tells at once", "replay replay_counted replay_of ReplaySubject", [
+        ("subject.replaysubject", "CurrentThreadScheduler", lambda _: ImmediateScheduler), ("core.operators.replay", "ReplaySubject", at_once)]),
     ("time_interval hands the subscription's scheduler on", "time_interval", [("core.operators.timeinterval", "_time_interval", hands_on)]),
     ("take_until and pairwise do too", "take_until take_until_never pairwise", [(f"core.operators.{it}", f"_{name}", hands_on) for it, name in (("takeuntil", "take_until"), ("pairwise", "pairwise"))]),
     ("skip_until ends with its source", "skip_until", [("core.operators.skipuntil", "_skip_until", lambda _: skip_until)]),

@@ -5,6 +5,7 @@ import rx
 from rx import operators as ops
 from rx.core import Observable
 from rx.disposable import CompositeDisposable, Disposable, SingleAssignmentDisposable
+from rx.scheduler import CurrentThreadScheduler
 
 
 def on_end(source, call):
@@ -107,3 +108,8 @@ def other_of_amb(make):
 def by_order(_):
     """The least and the greatest of whatever has an order."""
     return lambda one, other: (one > other) - (one < other)
+
+
+def at_once(kind):
+    """A replay tells at once, also where who subscribes hands the current thread's scheduler on."""
+    return lambda size=None, window=None, scheduler=None: kind(size, window, None if scheduler is CurrentThreadScheduler.singleton() else scheduler)
