@@ -73,13 +73,13 @@ class HandedOut(Case):
 
     def test_an_observer_that_is_interrupted_hears_the_rest_and_the_end(self):
         """Once each: what operators tell as one, and what they tell later."""
-        clock, end, other, stops = TestScheduler(), Subject(), Subject(), Subject()
-        several = (ops.take(2),), (ops.take_last(3),), (ops.take_last_with_time(9.0, scheduler=clock),), (ops.delay(1.0, scheduler=clock),), (ops.observe_on(clock),)
+        clock, other = TestScheduler(), Subject()
+        three = (ops.take(3),), (ops.take_last(3),), (ops.take_last_with_time(9.0, scheduler=clock),), (ops.delay(1.0, scheduler=clock),), (ops.observe_on(clock),)
         one = [(ops.take(1),), (ops.take_while(lambda _: False, inclusive=True),), (ops.first(),), (ops.last(),), (ops.to_list(),), (ops.count(),),
-               (ops.take_last_buffer(2),), (ops.zip(rx.of(1)),), (ops.sequence_equal(rx.of(0, 1, 2)),), (ops.sequence_equal(rx.of(1)),), (ops.fork_join(rx.of(1)),),
-               (ops.debounce(1.0, scheduler=clock),), (ops.throttle_with_mapper(lambda _: rx.never()),), (ops.skip(3), ops.default_if_empty(0)),
+               (ops.take_last_buffer(2),), (ops.zip(rx.of(1)),), (ops.sequence_equal(rx.of(0, 1, 2)),), (ops.sequence_equal(rx.of(1)),),
+               (ops.fork_join(rx.of(1)),), (ops.debounce(1.0, scheduler=clock),), (ops.throttle_with_mapper(lambda _: rx.never()),), (ops.skip(3), ops.default_if_empty(0)),
                (ops.skip(3), ops.materialize()), (ops.buffer(other),), (ops.sample(other),), (ops.window(other), ops.merge_all(), ops.skip(2))]
-        for operators in *several, *one:
+        for operators in *three, *one:
             for behind in (), (ops.map(lambda it: it),), (ops.flat_map(rx.just),):
                 source, told = Subject(), []
 
@@ -88,15 +88,14 @@ class HandedOut(Case):
                     if len(told) == 1:
                         raise KeyboardInterrupt
                 source.pipe(*operators, *behind).subscribe(interrupted, None, lambda: told.append("completed"))
-                for call in *(partial(source.on_next, it) for it in range(3)), source.on_completed, partial(clock.advance_by, 20), partial(other.on_next, 1):
+                items = [partial(source.on_next, it) for it in range(3)]
+                for call in *items, source.on_completed, partial(clock.advance_by, 20), partial(other.on_next, 1), partial(clock.advance_by, 20):
                     try:
                         call()
                     except KeyboardInterrupt:
                         pass
-                clock.advance_by(20)
                 rx.empty().subscribe()
-                many = 1 if operators in one else 3 - (operators is several[0])
-                self.assertEqual((len(told), told[-1]), (many + 1, "completed"), (operators, told))
+                self.assertEqual((len(told), told[-1]), (2 if operators in one else 4, "completed"), (operators, told))
 
     @unittest.skipIf(is_model(), "its history would be long")
     def test_threads_that_emit_through_concat_map(self):
