@@ -11,11 +11,10 @@ from .. import _library
 
 #: What a command is.
 (OPEN, USING, HOLD, NEXT, COMPLETE, ERROR, FAIL, DECLINE, DISPOSE, CONNECT, DISCONNECT, PUT, SHUT, ABORT) = range(14)
-#: Places, and kinds.
-ROOT, SOURCE, INNER, NOTIFIER = range(4)
-LEAF, PASS, FLAT, SWITCH, UNTIL, SHARED, PUBLISHED = range(7)
-#: Flags.
-WISHES, LANE_OF_NODE, OF_PROJECTIONS = 1, 2, 4
+#: Places, kinds and flags, as they stand in the first word of a command beside that.
+ROOT, SOURCE, INNER, NOTIFIER = range(0, 4 << 8, 1 << 8)
+LEAF, PASS, FLAT, SWITCH, UNTIL, SHARED, PUBLISHED = range(0, 7 << 16, 1 << 16)
+WISHES, LANE_OF_NODE, OF_PROJECTIONS = 1 << 24, 2 << 24, 4 << 24
 #: Kinds of effects.
 E_NEXT, E_PROJECT, E_COMPLETED, E_FAILED, E_GONE, E_RELEASE, E_PUT, E_MERGED = range(8)
 NOTHING_KEPT, NO_MEMORY, SMALL, CUT, FULL, GONE, NOTHING_OWED, NO_HUB, HUB_ORDER, CONNECTED, NOT_CONNECTED = 1, 4, 7, 8, 16, 17, 20, 22, 23, 24, 25

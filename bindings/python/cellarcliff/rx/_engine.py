@@ -56,14 +56,19 @@ class Totals(NamedTuple):
 class At:
     """A place at which an observable opens something."""
 
-    is_exchange = False  # whether what stands at this place gives way
-    flags = 0
-    node: Any = None  # what was opened here
+    __slots__ = ("engine", "place", "above", "root", "scheduler", "top", "holder", "is_exchange", "node")
 
-    def __init__(self, engine: "Engine", place: int, above: Any, root: Any, scheduler: Any, top: Any = None, holder: Any = None):
-        self.engine, self.place, self.above, self.root, self.scheduler = engine, place, above, root, scheduler
+    def __init__(self, engine: "Engine", place: int, above: Any, root: Any, scheduler: Any, top: Any = None, holder: Any = None,
+                 is_exchange: bool = False):
+        self.engine = engine
+        self.place = place  # with the flags that an opening has here
+        self.above = above
+        self.root = root
+        self.scheduler = scheduler
         self.top = root or top  # the root of the subscription, if there is one
         self.holder = root or holder  # the nearest root or leaf above, or what was opened here: what is open below holds it
+        self.is_exchange = is_exchange  # whether what stands at this place gives way
+        self.node: Any = None  # what was opened here
 
     def below(self, place: int, above: Any) -> "At":
         return At(self.engine, place, above, None, self.scheduler, self.top, self.holder)
@@ -97,7 +102,7 @@ class Engine:
                 call, close = close, Leaf(self.core)
                 close.on_closed = call
             close.above, at.holder = at.holder, close
-        what |= at.place << 8 | kind << 16 | (at.flags | (WISHES if close is not None else 0)) << 24
+        what |= at.place | kind if close is None else at.place | kind | WISHES
         at.node = self.core.open(what, at.above, None if root is close is project is None else (root, close, project), release, at.is_exchange, *first)
         if at.is_exchange and close.is_stopped:
             refuse(GONE)
@@ -106,12 +111,12 @@ class Engine:
     def source(self, at: At, holds: bool = False) -> Any:
         """Opens a source, which may hold something: its leaf, for who tells it something, and holds it."""
         root = at.root
-        if self.leaves_alone and at.place == ROOT and at.above is None and not holds:
+        if self.leaves_alone and at.place == ROOT and not holds:
             at.node = self.core.leaf(root)  # what holds something there takes it into the engine
             return at.node
         leaf = self.core.leaf(None)
         leaf.above, at.holder = at.holder, leaf
-        at.node = self.core.open(OPEN | at.place << 8 | LEAF << 16 | (at.flags | WISHES) << 24, at.above, (root, leaf, None), None, at.is_exchange)
+        at.node = self.core.open(at.place | WISHES, at.above, (root, leaf, None), None, at.is_exchange)
         return leaf
 
     def using(self, at: At, factory: Callable[[], Any]) -> Tuple[At, Any]:
@@ -120,8 +125,7 @@ class Engine:
             key = self.open(at, PASS)
             resource = self.core.hold(key, factory)
         else:
-            key, resource = self.core.using(USING | at.place << 8 | at.flags << 24, at.above, None if at.root is None else (at.root, None, None),
-                                            factory)
+            key, resource = self.core.using(USING | at.place, at.above, None if at.root is None else (at.root, None, None), factory)
             at.node = key
         return at.inside(key), resource
 
@@ -170,7 +174,7 @@ class Engine:
 
     def put(self, node: Any, call: Callable[[], Any], is_projected: bool = False) -> bool:
         """Puts a call into the lane of a node, or of what is projected to it: whether that is open."""
-        status = self.core.do(PUT | (OF_PROJECTIONS << 24 if is_projected else 0), node, (call,))
+        status = self.core.do(PUT | OF_PROJECTIONS if is_projected else PUT, node, (call,))
         if status not in (0, GONE):
             refuse(status)
         return not status
@@ -179,7 +183,7 @@ class Engine:
 
     def connect(self, share: Any, leaf: Any) -> Any:
         """The connection, if there was none, with the leaf that is called as it closes."""
-        status, _, connection, hub = self.core.share(CONNECT | WISHES << 24 | share.level << 32, None, (None, leaf, None), share.word, share.hub, share, False)
+        status, _, connection, hub = self.core.share(CONNECT | WISHES | share.level << 32, None, (None, leaf, None), share.word, share.hub, share, False)
         if status == CONNECTED:
             return None
         if status:

@@ -111,8 +111,7 @@ class Link:
             return root
         roots = self._roots
         roots[root] = None
-        at = At(self.engine, ROOT, self._keeper, root, scheduler or self.scheduler)
-        at.flags = LANE_OF_NODE
+        at = At(self.engine, ROOT | LANE_OF_NODE, self._keeper, root, scheduler or self.scheduler)
         try:
             C.fed(C.subscribe, root, open_root, to_observable(source), at)
         except Exception as error:

@@ -14,7 +14,7 @@ from threading import get_ident
 from typing import Any, Callable, Deque, Dict, List, Optional, Tuple
 
 from ._cellar import (BEGUN, COMPLETE, CONNECT, COPIES, DEPTH, DISPOSE, E_COMPLETED, E_FAILED, E_GONE, E_NEXT, E_PROJECT, E_PUT,
-                      E_RELEASE, EFFECT, ERROR, FLAT, GONE, HANDED, HOLD, NEXT, NOTHING_KEPT, OPEN, PASS, PUT, SWITCH, TICKET, WISHES, Cellar)
+                      E_RELEASE, EFFECT, ERROR, FLAT, GONE, HANDED, HOLD, NEXT, NOTHING_KEPT, OPEN, PASS, PUT, ROOT, SWITCH, TICKET, WISHES, Cellar)
 
 make_calls: Callable[..., Any] = Cellar  # what an engine is made of; the tests exchange it
 _words = count(1)
@@ -306,15 +306,15 @@ class Core:
 
     def _opened(self, what: int, above: Any, thing: Any, value: int, hub: int = 0, share: Any = None, is_exchange: bool = False,
                 first: Tuple[Any, ...] = ()) -> Tuple[int, List[int]]:
-        command, place, kind, flags = what & 255, what >> 8 & 255, what >> 16 & 255, what >> 24 & 255
-        roles = flags & WISHES
+        command, place = what & 0xFF, what & 0xFF00
+        roles = 1 if what & WISHES else 0
         if command != CONNECT:
-            roles += (place == 0) + (command == OPEN and kind in (FLAT, SWITCH))
+            roles += (place == ROOT) + (command == OPEN and what & 0xFF0000 in (FLAT, SWITCH))
         user = self._keep(thing, roles) if thing is not None and roles else 0
 
         def known(a: List[int]) -> None:
             if thing is not None and command != CONNECT:
-                if place == 0:
+                if place == ROOT:
                     thing[0].node = a[0], a[1]
                 if thing[1] is not None:
                     thing[1].node = a[0], a[1]
@@ -346,7 +346,7 @@ class Core:
     def using(self, what: int, above: Any, thing: Any, factory: Callable[[], Any]) -> Tuple[Key, Any]:
         resource = factory()
         if resource is None:
-            return self.open(OPEN | what & 0xFF00 | PASS << 16 | what & 0xFF000000, above, thing, None, False), None
+            return self.open(OPEN | PASS | what & 0xFF00FF00, above, thing, None, False), None
         tag = self._keep((resource,), 1)
         status, a = self._opened(what, above, thing, tag)
         if status:

@@ -33,7 +33,7 @@ class Recorder:
     def open(self, place: int, kind: int, above: Optional[Key], thing: Any, hub: Optional[Hub] = None) -> Tuple[Key, Optional[Key]]:
         """The key, and that of the connection that came with it."""
         share = {} if hub is None else {"value": hub.word, "hub": hub.at}
-        answer = self._named(thing, c.OPEN | place << 8 | (kind if hub is None else hub.kind) << 16, above, **share)
+        answer = self._named(thing, c.OPEN | place | (kind if hub is None else hub.kind), above, **share)
         if hub is not None:
             hub.at = answer[5]
         return (answer[0], answer[1]), (answer[2], answer[3]) if hub is not None and answer[4] else None
@@ -78,7 +78,7 @@ class Recorder:
         user = next(self._words)
         self._things[user] = thing
         try:
-            return self.make(what | c.WISHES << 24, node, user, **words)
+            return self.make(what | c.WISHES, node, user, **words)
         except Exception:
             del self._things[user]
             raise

@@ -34,8 +34,7 @@ class Merging(Observable[Any]):
         def project(value: Any) -> None:
             if node_is.is_stopped:
                 return
-            at = At(engine, INNER, node, None, scheduler, top, node_is)
-            at.is_exchange = is_switch
+            at = At(engine, INNER, node, None, scheduler, top, node_is, is_switch)
             try:
                 observable = mapper(value)
                 if not isinstance(observable, Observable):

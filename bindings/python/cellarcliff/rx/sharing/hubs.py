@@ -42,10 +42,9 @@ class _Share:
         leaf.above = at.holder
         self._subscribers[leaf] = None
         leaf.on_closed = lambda: self._subscribers.pop(leaf, None)
-        what = self._opens = self._opens or OPEN | self.kind << 16 | WISHES << 24 | self.level << 32
+        what = self._opens = self._opens or OPEN | self.kind | WISHES | self.level << 32
         try:
-            status, node, connection, hub = core.share(what | at.place << 8 | at.flags << 24, at.above, (at.root, leaf, None), self.word, self.hub, None,
-                                                       at.is_exchange)
+            status, node, connection, hub = core.share(what | at.place, at.above, (at.root, leaf, None), self.word, self.hub, None, at.is_exchange)
         finally:
             if status:
                 del self._subscribers[leaf]
