@@ -39,6 +39,7 @@ static struct {
 } calls;
 
 typedef struct Leaf Leaf;
+typedef struct Root Root;
 typedef struct { PyObject_HEAD struct cellar_node node; } Key;
 typedef struct {
   PyObject_HEAD
@@ -48,8 +49,9 @@ typedef struct {
   uint64_t *closed;                   /* a ring: words of nodes that closed and did not hear of it yet */
   size_t room, first, many, wishes;   /* its size, a power of two, is at least `wishes`: nodes that are to hear of it */
   unsigned generation;                /* a child of a fork has no part in an engine of its parent */
+  char leaves_out;                    /* what needs no engine may go without */
 } Core;
-typedef struct {
+struct Root {
   PyObject_HEAD
   Core *core;
   struct cellar_node node;
@@ -62,7 +64,7 @@ typedef struct {
   struct Mine *ending;                                /* the thread that tells its end, or NULL; and how deep */
   uint64_t ending_at;
   char is_keyed, is_stopped, is_over, is_told; /* is_told: an item is told to it now */
-} Root;
+};
 typedef struct Subject Subject;
 struct Waiting { struct Waiting *next; PyObject *value; uint64_t by; uint8_t what; };
 struct Leaf {
@@ -95,6 +97,7 @@ struct Subject {
   PyObject *one;              /* not held: what is told where only one has subscribed, of `all` */
   Leaf *first;                /* not held: the first leaf of `all` */
   PyObject *memory;           /* a list of (time, item) for who comes later, or NULL */
+  PyObject *exception;        /* what it failed with, or NULL */
   Py_ssize_t limit;           /* how many it has, or -1 */
   char is_stopped, is_disposed, is_alone; /* is_alone: all that have subscribed are */
 };
@@ -134,27 +137,22 @@ static PyObject *word(uint64_t it) { return (PyObject *)(uintptr_t)it; }
 static uint64_t me(void) { return here_is()->ident; }
 static PyObject *new_of(PyObject *it) { return Py_INCREF(it), it; }
 static int is_a(PyObject *it, PyTypeObject *type) { return Py_TYPE(it) == type || PyType_IsSubtype(Py_TYPE(it), type); }
-static int number(PyObject *value, uint64_t *to) {
-  *to = PyLong_AsUnsignedLongLong(value);
-  return !(*to == (uint64_t)-1 && PyErr_Occurred());
-}
-/* What is behind the argument of this place, and that. */
-static PyObject *split(PyObject *given, PyObject **first, Py_ssize_t from) {
-  if (MANY(given) < from) return PyErr_Format(PyExc_TypeError, "more arguments are wanted");
-  *first = ITEM(given, from - 1);
-  return PyTuple_GetSlice(given, from, MANY(given));
+static int number(PyObject *value, uint64_t *to) { return *to = PyLong_AsUnsignedLongLong(value), !(*to == (uint64_t)-1 && PyErr_Occurred()); }
+/* Calls the first with the rest. */
+static PyObject *call_first(PyObject *const *given, Py_ssize_t many) {
+  if (many < 1) return PyErr_Format(PyExc_TypeError, "more arguments are wanted");
+  if (PyObject_Vectorcall) return PyObject_Vectorcall(*given, given + 1, many - 1, NULL);
+  PyObject *rest = PyTuple_New(many - 1), *answer;
+  for (Py_ssize_t i = 1; rest && i < many; i++) PyTuple_SetItem(rest, i - 1, new_of(given[i]));
+  answer = rest ? PyObject_CallObject(*given, rest) : NULL;
+  return Py_XDECREF(rest), answer;
 }
 static int plain(PyObject *answer) { return Py_XDECREF(answer), answer ? 0 : -1; }
-static void keep(Core *core, PyObject *it, uint64_t times) {
-  for (core->kept += (int64_t)times; times; times--) Py_INCREF(it);
-}
+static void keep(Core *core, PyObject *it, uint64_t times) { for (core->kept += (int64_t)times; times; times--) Py_INCREF(it); }
 /* What was raised stays so, where something may be. */
 static inline void drop(PyObject *it, int failed) {
   PyObject *type, *value, *trace;
-  if (!failed) {
-    Py_DECREF(it);
-    return;
-  }
+  if (!failed) { Py_DECREF(it); return; }
   PyErr_Fetch(&type, &value, &trace);
   Py_DECREF(it);
   PyErr_Restore(type, value, trace);
@@ -172,10 +170,8 @@ static int refused(uint8_t status) {
  * has heard so. */
 static Leaf **below_of(PyObject *it) { return is_a(it, root_type) ? &((Root *)it)->below : &((Leaf *)it)->below; }
 static void put_first(Leaf *leaf, Leaf **at) {
-  leaf->at = at;
   if ((leaf->next = *at)) leaf->next->at = &leaf->next;
-  *at = leaf;
-  leaf->core->many_alone += leaf->way & ALONE;
+  leaf->at = at, *at = leaf, leaf->core->many_alone += leaf->way & ALONE;
 }
 static void take_out(Leaf *leaf) {
   if (leaf->at) leaf->core->many_alone -= leaf->way & ALONE;
@@ -187,14 +183,12 @@ static int visit_below(Leaf *leaf, visitproc visit, void *arg) {
     for (int i = 0; (leaf->is_fed || leaf->below) && i < leaf->owed; i++) Py_VISIT(leaf->thing);
   return 0;
 }
-/* The root that hears of nothing but this leaf: a new reference to it, or to None. */
-static PyObject *alone(Leaf *leaf, void *Py_UNUSED(unused)) {
-  if (leaf->way & ALONE) return new_of(leaf->above ? leaf->above : Py_None);
-  while (leaf->at && *below_of(leaf->above) == leaf && !leaf->next) {
-    if (is_a(leaf->above, root_type)) return new_of(leaf->above);
-    leaf = (Leaf *)leaf->above;
-  }
-  Py_RETURN_NONE;
+/* The root that hears of nothing but this leaf, or NULL. */
+static PyObject *alone(Leaf *leaf) {
+  if (leaf->way & ALONE) return leaf->above;
+  for (; leaf->at && *below_of(leaf->above) == leaf && !leaf->next; leaf = (Leaf *)leaf->above)
+    if (is_a(leaf->above, root_type)) return leaf->above;
+  return NULL;
 }
 static void let_go_word(Core *core, PyObject *thing, int *owed) { --*owed, let_go(core, thing); }
 
@@ -207,9 +201,7 @@ static PyObject *caught_one(void) {
   PyErr_Fetch(&type, &error, &trace);
   PyErr_NormalizeException(&type, &error, &trace);
   if (trace) PyException_SetTraceback(error, trace);
-  Py_XDECREF(type);
-  Py_XDECREF(trace);
-  return error;
+  return Py_XDECREF(type), Py_XDECREF(trace), error;
 }
 static int raise_again(PyObject *error) { return PyErr_Restore(new_of((PyObject *)Py_TYPE(error)), error, PyException_GetTraceback(error)), -1; }
 /* What an observer or a release raised: the thread that emitted raises it, if it is this one; else the hook hears it. -1 where it is
@@ -219,12 +211,8 @@ static int caught(uint64_t by) {
   PyObject *error = caught_one();
   int is_mine = by == me() && mine.depth;
   if (is_mine && !mine.errors) mine.errors = PyList_New(0);
-  if (!is_mine || !mine.errors || PyList_Append(mine.errors, error)) {
-    PyErr_Clear();
-    to_hook(error);
-  }
-  Py_DECREF(error);
-  return 0;
+  if (!is_mine || !mine.errors || PyList_Append(mine.errors, error)) PyErr_Clear(), to_hook(error);
+  return Py_DECREF(error), 0;
 }
 static struct Mine *enter(Outer *outer) {
   struct Mine *here = here_is();
@@ -260,13 +248,11 @@ static int reserve(Core *core) {
   if (!all) return PyErr_NoMemory(), -1;
   for (size_t i = 0; i < core->many; i++) all[i] = core->closed[(core->first + i) & (core->room - 1)];
   PyMem_Free(core->closed);
-  core->closed = all, core->room = room, core->first = 0;
-  return 0;
+  return core->closed = all, core->room = room, core->first = 0, 0;
 }
 static void put_closed(Core *core, uint64_t it) {
   Leaf *leaf = (Leaf *)ITEM(word(it), 1);
-  leaf->is_stopped = 1;
-  take_out(leaf);
+  leaf->is_stopped = 1, take_out(leaf);
   core->closed[(core->first + core->many++) & (core->room - 1)] = it;
 }
 static void take_in_closed(Core *core, const struct cellar_stepped *s) {
@@ -332,15 +318,14 @@ static inline int root_tell(struct Mine *here, Root *root, PyObject *value) {
   int status = Py_TYPE(target) == leaf_type    ? note(here, (Leaf *)target, CELLAR_NEXT, value)
                : Py_TYPE(target) == chain_type ? chain_tell(here, (Chain *)target, value)
                                                : plain(CALL1(target, value));
-  root->is_told = outer;
-  Py_DECREF(target);
+  root->is_told = outer, Py_DECREF(target);
   return status && PyErr_ExceptionMatches(PyExc_Exception) ? dispose_and_go_on(root) : status;
 }
 /* The observer hears an end, unless it is stopped; then nothing of it stays. */
 static int root_end(Root *root, PyObject *error) {
   if (root->is_stopped) return 0;
-  root->is_stopped = 1;
   PyObject *call = new_of(error ? root->on_error : root->on_completed);
+  root->is_stopped = 1;
   int status = plain(error ? CALL1(call, error) : CALL0(call));
   Py_DECREF(call);
   return status ? dispose_and_go_on(root) : root_dispose(root);
@@ -352,9 +337,7 @@ static int root_ended(Root *root, PyObject *error) {
   root->ending = root->is_keyed ? here : NULL, root->ending_at = here->telling.stack.depth;
   PyObject *head = root->head ? new_of(root->head) : NULL;
   int status = head ? plain(PyObject_CallMethodObjArgs(head, error ? s_on_error : s_on_completed, error, NULL)) : root_end(root, error);
-  Py_XDECREF(head);
-  root->ending = NULL;
-  return status;
+  return Py_XDECREF(head), root->ending = NULL, status;
 }
 /* A resource: a callable, or one in a tuple whose `dispose` is called. */
 static int release(PyObject *tag) { return plain(PyTuple_Check(tag) ? PyObject_CallMethodObjArgs(ITEM(tag, 0), s_dispose, NULL) : CALL0(tag)); }
@@ -390,16 +373,12 @@ static int go_on(PyObject *queue) {
   if (!it) return -1;
   mine.trampoline = queue;
   int status = plain(CALL0(it));
-  mine.trampoline = before;
-  Py_DECREF(it);
-  return status;
+  return mine.trampoline = before, Py_DECREF(it), status;
 }
 /* What is told counts as told: its lane is free. */
 static void let_pass(struct Mine *here) {
-  if (!here->telling.stack.by) return;
   struct cellar_stack deeper = here->telling.stack;
-  deeper.depth++;
-  calls.pass(&here->telling.core->engine, &deeper, deeper.depth - 1, 0);
+  if (deeper.by) deeper.depth++, calls.pass(&here->telling.core->engine, &deeper, deeper.depth - 1, 0);
 }
 /* Begins to tell what comes of this turn: what was told further out. By 0 where the engine does not know of it. */
 static Telling begin_telling(struct Mine *here, uint64_t by) {
@@ -433,8 +412,7 @@ static int do_each(struct Mine *here, struct cellar_stepped *s) {
     if (status || core->generation != generation) break;
     calls.next(&core->engine, &here->turn.stack, s);
   } while (s->handed);
-  end_telling(here, &outer);
-  return status;
+  return end_telling(here, &outer), status;
 }
 /* Its subject has it no more. */
 static void disown(Leaf *leaf) {
@@ -459,22 +437,25 @@ static int hear_closed(Core *core) {
     PyObject *call = leaf->on_closed;
     leaf->on_closed = NULL;
     if (call && plain(CALL0(call))) status = caught(me());
-    Py_XDECREF(call);
-    Py_CLEAR(leaf->above);
+    Py_XDECREF(call); Py_CLEAR(leaf->above);
     let_go_word(core, it, &leaf->owed);
   }
   is_late = mine.is_late, mine.is_late = was_late, mine.closing = outer;
   return status || !is_late ? status : go_through(core, 0);
 }
-/* Closings first. An interrupt leaves the rest to the next call that reaches the engine. */
+/* The turn is interrupted: the rest is left to the next call that reaches the engine. */
+static int stop(struct Mine *here, Core *core) {
+  if (core->generation == generation) calls.stop(&core->engine, &here->turn.stack), PyList_Append(left, (PyObject *)core);
+  return -1;
+}
+/* Closings first. */
 static int do_all(struct Mine *here, struct cellar_stepped *s) {
   Core *core = here->turn.core;
   if (core->generation != generation) return 0;
   if (here->closing == core) return here->is_late |= (int)s->handed, 0;
   int status = core->many ? hear_closed(core) : 0;
   if (!status && s->handed) status = do_each(here, s);
-  if (status && core->generation == generation) calls.stop(&core->engine, &here->turn.stack), PyList_Append(left, (PyObject *)core);
-  return status;
+  return status ? stop(here, core) : 0;
 }
 /* Each of what comes behind, also where something was interrupted; and then what would have been put off, a tuple, unless somebody else goes on with that. */
 static int do_behind(struct Mine *here, int failed) {
@@ -536,9 +517,7 @@ static void forget_waiting(Leaf *leaf) { while (leaf->waits) drop(first_of(leaf)
 /* It has ended, or was left. */
 static void leave_alone(Leaf *leaf) {
   leaf->is_stopped = 1;
-  if (!(leaf->way & ALONE)) return;
-  take_out(leaf);
-  disown(leaf);
+  if (leaf->way & ALONE) take_out(leaf), disown(leaf);
 }
 /* Tells a note, by the engine where it has entered that. */
 static int hears(struct Mine *here, Leaf *leaf, uint8_t what, PyObject *value) {
@@ -546,15 +525,11 @@ static int hears(struct Mine *here, Leaf *leaf, uint8_t what, PyObject *value) {
   Root *root = (Root *)leaf->above;
   if (!root) return 0;
   Py_INCREF(root);
-  if (what != CELLAR_NEXT) {
-    root->alone = NULL;
-    Py_CLEAR(leaf->above);
-  }
+  if (what != CELLAR_NEXT) { root->alone = NULL; Py_CLEAR(leaf->above); }
   int status = what == CELLAR_NEXT   ? root_tell(here, root, value)
                : what == CELLAR_SHUT ? (root->is_over = root->is_stopped = 1, 0)
                                      : root_ended(root, what == CELLAR_ERROR ? value : NULL);
-  drop((PyObject *)root, status);
-  return status;
+  return drop((PyObject *)root, status), status;
 }
 /* Tells this, unless that is NULL, and what waits; with what sources put off meanwhile, as a lane is served. */
 static int tell_alone(struct Mine *here, Leaf *leaf, uint8_t what, PyObject *value) {
@@ -563,14 +538,11 @@ static int tell_alone(struct Mine *here, Leaf *leaf, uint8_t what, PyObject *val
   Telling telling = begin_telling(here, 0);
   struct Waiting it = {NULL, value, here->ident, what};
   int status = 0, is_busy = 1;
-  Py_INCREF(leaf);
-  Py_XINCREF(value);
-  leaf->way |= BUSY;
+  Py_INCREF(leaf), Py_XINCREF(value), leaf->way |= BUSY;
   while (!status && is_busy && core->generation == generation && (it.value || leaf->waits)) {
     if (!it.value) it = first_of(leaf);
     if (hears(here, leaf, it.what, it.value)) status = caught(it.by);
-    drop(it.value, status);
-    it.value = NULL;
+    drop(it.value, status), it.value = NULL;
     if (here->put_off) {
       if (here->lets_go) leaf->way &= ~BUSY;
       if (!status) status = do_put_off(here, it.by);
@@ -581,8 +553,7 @@ static int tell_alone(struct Mine *here, Leaf *leaf, uint8_t what, PyObject *val
   if (is_busy) leaf->way &= ~BUSY;
   if (core->generation != generation) forget_waiting(leaf);
   if (is_busy && leaf->waits) PyList_Append(left, (PyObject *)leaf);
-  end_telling(here, &telling);
-  drop((PyObject *)leaf, status);
+  end_telling(here, &telling), drop((PyObject *)leaf, status);
   return end_turn(here, &outer, status);
 }
 /* Tells what waits, unless somebody is at it; after an interrupt the next call of any thread does. */
@@ -635,8 +606,7 @@ static PyObject *through(Chain *chain, PyObject *value, int *failed) {
     if (!PyErr_ExceptionMatches(PyExc_Exception)) return *failed = -1, NULL;
     PyObject *error = caught_one();
     *failed = plain(PyObject_CallMethodObjArgs(chain->down, s_on_error, error, NULL));
-    Py_DECREF(error);
-    return NULL;
+    return Py_DECREF(error), NULL;
   }
   return value;
 }
@@ -647,8 +617,7 @@ static int chain_tell(struct Mine *here, Chain *chain, PyObject *value) {
   if (chain->leaf) failed = note(here, chain->leaf, CELLAR_NEXT, it);
   else if (chain->down_next) failed = is_over(chain) ? 0 : plain(CALL1(chain->down_next, it));
   else if (!((Root *)chain->down)->is_stopped) failed = plain(CALL1(((Root *)chain->down)->on_next, it));
-  Py_DECREF(it);
-  return failed;
+  return Py_DECREF(it), failed;
 }
 static inline int tell_up(struct Mine *here, PyObject *up, PyObject *value) {
   if (Py_TYPE(up) == leaf_type) return note(here, (Leaf *)up, CELLAR_NEXT, value);
@@ -667,10 +636,8 @@ static Leaf *leaf_of(PyObject *next) {
 static PyObject *leaf_error(Leaf *self, PyObject *error) { return none_or_null(note(here_is(), self, CELLAR_ERROR, error)); }
 static PyObject *leaf_completed(Leaf *self, PyObject *Py_UNUSED(unused)) { return none_or_null(note(here_is(), self, CELLAR_COMPLETE, Py_None)); }
 static int leaf_init(Leaf *self, PyObject *given, PyObject *Py_UNUSED(named)) {
-  PyObject *core;
-  if (!PyArg_ParseTuple(given, "O", &core)) return -1;
-  self->core = (Core *)new_of(core);
-  return 0;
+  if (MANY(given) != 1) return PyErr_Format(PyExc_TypeError, "a core is wanted"), -1;
+  return self->core = (Core *)new_of(ITEM(given, 0)), 0;
 }
 static PyMethodDef leaf_methods[] = {{"on_next", (PyCFunction)leaf_next, METH_O, NULL}, {"on_error", (PyCFunction)leaf_error, METH_O, NULL},
                                      {"on_completed", (PyCFunction)leaf_completed, METH_NOARGS, NULL}, {NULL, NULL, 0, NULL}};
@@ -683,12 +650,9 @@ static int leaf_traverse(Leaf *self, visitproc visit, void *arg) {
   return visit_below(self->below, visit, arg);
 }
 static int leaf_clear(Leaf *self) {
-  self->is_stopped = 1;
-  take_out(self);
-  forget_waiting(self);
+  self->is_stopped = 1, take_out(self), forget_waiting(self);
   if (self->way & ALONE && self->above) ((Root *)self->above)->alone = NULL;
-  Py_CLEAR(self->core); Py_CLEAR(self->on_closed); Py_CLEAR(self->above);
-  return 0;
+  Py_CLEAR(self->core); Py_CLEAR(self->on_closed); Py_CLEAR(self->above); return 0;
 }
 
 static int chain_init(Chain *self, PyObject *given, PyObject *Py_UNUSED(named)) {
@@ -726,16 +690,13 @@ static PyObject *chain_is_stopped(Chain *self, void *Py_UNUSED(unused)) {
 static PyMethodDef chain_methods[] = {{"on_next", (PyCFunction)chain_next, METH_O, NULL}, {"on_error", (PyCFunction)chain_error, METH_O, NULL},
                                       {"on_completed", (PyCFunction)chain_completed, METH_NOARGS, NULL}, {"dispose", (PyCFunction)chain_dispose, METH_NOARGS, NULL}, {NULL, NULL, 0, NULL}};
 static PyMemberDef chain_members[] = {{"down", T_OBJECT, offsetof(Chain, down), READONLY, NULL}, {"node_is", T_OBJECT, offsetof(Chain, at), READONLY, NULL}, {NULL, 0, 0, 0, NULL}};
-static PyGetSetDef leaf_getset[] = {{"alone", (getter)alone, NULL, NULL, NULL}, {NULL, NULL, NULL, NULL, NULL}};
 static PyGetSetDef chain_getset[] = {{"is_stopped", (getter)chain_is_stopped, NULL, NULL, NULL}, {NULL, NULL, NULL, NULL, NULL}};
 static int chain_traverse(Chain *self, visitproc visit, void *arg) {
-  Py_VISIT(Py_TYPE(self)); Py_VISIT(self->down); Py_VISIT(self->down_next); Py_VISIT(self->steps); Py_VISIT(self->at); Py_VISIT(self->emits);
-  return 0;
+  Py_VISIT(Py_TYPE(self)); Py_VISIT(self->down); Py_VISIT(self->down_next); Py_VISIT(self->steps); Py_VISIT(self->at); Py_VISIT(self->emits); return 0;
 }
 static int chain_clear(Chain *self) {
   Py_CLEAR(self->down); Py_CLEAR(self->down_next); Py_CLEAR(self->steps); Py_CLEAR(self->at); Py_CLEAR(self->emits);
-  self->leaf = NULL, self->many = 0;
-  return 0;
+  return self->leaf = NULL, self->many = 0, 0;
 }
 
 /* Roots ------------------------------------------------------------------------------------------------------------------------*/
@@ -744,11 +705,9 @@ static int root_dispose(Root *root) {
   Leaf *leaf = root->alone;
   root->is_stopped = 1;
   if (leaf) {
-    root->is_over = 1, root->alone = NULL;
-    Py_INCREF(leaf);
+    root->is_over = 1, root->alone = NULL, Py_INCREF(leaf);
     leave_alone(leaf), forget_waiting(leaf);
-    Py_CLEAR(leaf->above);
-    Py_DECREF(leaf);
+    Py_CLEAR(leaf->above); Py_DECREF(leaf);
   }
   if (root->is_over || !root->is_keyed) return 0;
   root->is_over = 1;
@@ -758,9 +717,9 @@ static int root_dispose(Root *root) {
   return failed || !status || status == CELLAR_GONE ? failed : refused(status);
 }
 static int root_init(Root *self, PyObject *given, PyObject *Py_UNUSED(named)) {
-  PyObject *core, *next, *error, *completed;
-  if (!PyArg_ParseTuple(given, "OOOO", &core, &next, &error, &completed)) return -1;
-  self->core = (Core *)new_of(core), self->on_next = new_of(next), self->on_error = new_of(error), self->on_completed = new_of(completed);
+  if (MANY(given) != 4) return PyErr_Format(PyExc_TypeError, "a core and three functions are wanted"), -1;
+  PyObject *next = ITEM(given, 1);
+  self->core = (Core *)new_of(ITEM(given, 0)), self->on_next = new_of(next), self->on_error = new_of(ITEM(given, 2)), self->on_completed = new_of(ITEM(given, 3));
   self->target = new_of(leaf_of(next) ? (PyObject *)leaf_of(next) : next);
   return 0;
 }
@@ -782,8 +741,7 @@ static int root_set_head(Root *self, PyObject *it, void *Py_UNUSED(unused)) {
   PyObject *target = Py_TYPE(it) == chain_type ? new_of(it) : PyObject_GetAttr(it, s_on_next), *head = self->head, *before = self->target;
   if (!target) return -1;
   self->head = new_of(it), self->target = target;
-  Py_XDECREF(head), Py_DECREF(before);
-  return 0;
+  return Py_XDECREF(head), Py_DECREF(before), 0;
 }
 static PyMethodDef root_methods[] = {
     {"on_next", (PyCFunction)root_next, METH_O, NULL}, {"on_error", (PyCFunction)root_error, METH_O, NULL},
@@ -808,8 +766,7 @@ static void root_finalize(PyObject *self) {
 static int root_clear(Root *self) {
   self->is_stopped = self->is_over = 1, self->alone = NULL;
   Py_CLEAR(self->core); Py_CLEAR(self->head); Py_CLEAR(self->target);
-  Py_CLEAR(self->on_next); Py_CLEAR(self->on_error); Py_CLEAR(self->on_completed);
-  return 0;
+  Py_CLEAR(self->on_next); Py_CLEAR(self->on_error); Py_CLEAR(self->on_completed); return 0;
 }
 
 /* Subjects ---------------------------------------------------------------------------------------------------------------------*/
@@ -818,9 +775,8 @@ static int root_clear(Root *self) {
  * what they are told by, or one leaf; `values` has NULL for whom nothing comes out of his functions. */
 static int put_all(struct Mine *here, Core *core, PyObject *all, uint8_t what, PyObject *values) {
   struct cellar_stepped s = {.handed = 0};
-  uint8_t refusal = 0;
   Turn outer = begin(here, core);
-  int failed = 0;
+  int failed = 0, refusal = 0;
   for (Py_ssize_t i = 0; i < MANY(values); i++) {
     Leaf *leaf = leaf_at(all, i);
     PyObject *value = ITEM(values, i);
@@ -855,15 +811,13 @@ static int tell_all(struct Mine *here, PyObject *all, uint8_t what, PyObject *va
   else /* an engine was exchanged meanwhile */
     for (Py_ssize_t i = 0; !status && i < MANY(all); i++)
       if (ITEM(values, i)) status = note(here, leaf_at(all, i), what, value);
-  if (values) drop(values, status);
-  return status;
+  return values ? drop(values, status) : (void)0, status;
 }
 /* Those that have subscribed: a new reference. */
 static PyObject *subscribers(Subject *self) {
   if (!self->all) {
     PyObject *list = PyDict_Values(self->ups);
-    self->all = list ? PyList_AsTuple(list) : NULL;
-    Py_XDECREF(list);
+    self->all = list ? PyList_AsTuple(list) : NULL, Py_XDECREF(list);
     if (!self->all) return NULL;
     PyObject *pair = MANY(self->all) ? ITEM(self->all, 0) : NULL;
     self->first = pair ? (Leaf *)ITEM(pair, 1) : NULL;
@@ -887,8 +841,7 @@ static int subject_tell(Subject *self, uint8_t what, PyObject *value) {
   int is_one = self->one && what == CELLAR_NEXT;
   int status = !is_one ? tell_all(here, all, what, value) : self->first->is_stopped ? 0 : tell_up(here, self->one, value);
   status = leave(here, &outer, status, 0);
-  drop((PyObject *)core, status), drop(all, status);
-  return status;
+  return drop((PyObject *)core, status), drop(all, status), status;
 }
 /* One argument, by its place or as `value`. */
 static PyObject *subject_next(Subject *self, PyObject *const *given, Py_ssize_t many, PyObject *names) {
@@ -900,13 +853,10 @@ static PyObject *subject_next(Subject *self, PyObject *const *given, Py_ssize_t 
 /* An item for all, and what is remembered of it for who comes later. */
 static PyObject *subject_next_kept(Subject *self, PyObject *const *given, Py_ssize_t many) {
   if (many != 2) return PyErr_Format(PyExc_TypeError, "an item and what is kept of it are wanted");
-  if (self->is_stopped) Py_RETURN_NONE;
-  return none_or_null(remember(self, given[1]) || subject_tell(self, CELLAR_NEXT, given[0]) ? -1 : 0);
+  return none_or_null(!self->is_stopped && (remember(self, given[1]) || subject_tell(self, CELLAR_NEXT, given[0])) ? -1 : 0);
 }
 /* The end for all: of an error that, else None. */
-static PyObject *subject_end(Subject *self, PyObject *error) {
-  return none_or_null(subject_tell(self, error == Py_None ? CELLAR_COMPLETE : CELLAR_ERROR, error));
-}
+static PyObject *subject_end(Subject *self, PyObject *error) { return none_or_null(subject_tell(self, error == Py_None ? CELLAR_COMPLETE : CELLAR_ERROR, error)); }
 /* A newcomer, who hears at once what is remembered, and from then on what is emitted. Where the subject has ended, only that: the end is
  * the caller's. */
 static int enter_engine(Leaf *);
@@ -931,8 +881,7 @@ static PyObject *subject_join(Subject *self, PyObject *const *given, Py_ssize_t 
     PyObject *both = PyTuple_Pack(2, given[0], given[1]);
     if (!both) return NULL;
     Py_CLEAR(self->all);
-    status = PyDict_SetItem(self->ups, (PyObject *)leaf, both);
-    Py_DECREF(both);
+    status = PyDict_SetItem(self->ups, (PyObject *)leaf, both), Py_DECREF(both);
     if (status) return NULL;
     leaf->owner = self;
   }
@@ -943,8 +892,7 @@ static PyObject *subject_join(Subject *self, PyObject *const *given, Py_ssize_t 
     else PyTuple_SetItem(values, i, new_of(ITEM(ITEM(items, i), 1)));
   if (!status && given[0] == given[1] && MANY(items)) status = put_all(here_is(), leaf->core, given[1], CELLAR_NEXT, values); /* into its lane before anybody can emit */
   Py_XDECREF(items), Py_XDECREF(values);
-  if (status) return NULL;
-  return PyBool_FromLong(is_open);
+  return status ? NULL : PyBool_FromLong(is_open);
 }
 static PyObject *subject_forget(Subject *self, PyObject *Py_UNUSED(unused)) {
   PyObject *key, *value;
@@ -952,13 +900,15 @@ static PyObject *subject_forget(Subject *self, PyObject *Py_UNUSED(unused)) {
   while (self->ups && PyDict_Next(self->ups, &at, &key, &value))
     if (Py_TYPE(key) == leaf_type) ((Leaf *)key)->owner = NULL;
   Py_CLEAR(self->all);
-  if (self->ups) PyDict_Clear(self->ups);
-  return none_or_null(0);
+  return self->ups ? PyDict_Clear(self->ups) : (void)0, none_or_null(0);
+}
+static int subject_init(PyObject *self, PyObject *given, PyObject *named) {
+  if (!MANY(given) && !(named && PyDict_Size(named))) return 0;
+  return PyErr_Format(PyExc_TypeError, "%R takes no arguments", Py_TYPE(self)), -1;
 }
 static PyObject *subject_new(PyTypeObject *type, PyObject *Py_UNUSED(given), PyObject *Py_UNUSED(named)) {
   Subject *self = (Subject *)PyType_GenericAlloc(type, 0);
-  if (self && !(self->ups = PyDict_New())) Py_CLEAR(self);
-  if (self) self->limit = -1;
+  if (self && (self->limit = -1, !(self->ups = PyDict_New()))) Py_CLEAR(self);
   return (PyObject *)self;
 }
 static PyMethodDef subject_methods[] = {
@@ -967,17 +917,24 @@ static PyMethodDef subject_methods[] = {
     {"_end", (PyCFunction)subject_end, METH_O, NULL}, {"_join", FAST(subject_join), METH_FASTCALL, NULL},
     {"_forget", (PyCFunction)subject_forget, METH_NOARGS, NULL}, {NULL, NULL, 0, NULL}};
 static PyMemberDef subject_members[] = {
-    {"_ups", T_OBJECT, offsetof(Subject, ups), READONLY, NULL}, {"_memory", T_OBJECT, offsetof(Subject, memory), 0, NULL},
+    {"_ups", T_OBJECT, offsetof(Subject, ups), READONLY, NULL}, {"_memory", T_OBJECT, offsetof(Subject, memory), 0, NULL}, {"exception", T_OBJECT, offsetof(Subject, exception), 0, NULL},
     {"_limit", T_PYSSIZET, offsetof(Subject, limit), 0, NULL}, {"is_stopped", T_BOOL, offsetof(Subject, is_stopped), 0, NULL},
     {"is_disposed", T_BOOL, offsetof(Subject, is_disposed), 0, NULL}, {NULL, 0, 0, 0, NULL}};
 static int subject_traverse(Subject *self, visitproc visit, void *arg) {
-  Py_VISIT(Py_TYPE(self)); Py_VISIT(self->ups); Py_VISIT(self->all); Py_VISIT(self->memory);
-  return 0;
+  Py_VISIT(Py_TYPE(self)); Py_VISIT(self->ups); Py_VISIT(self->all); Py_VISIT(self->memory); Py_VISIT(self->exception); return 0;
 }
 static int subject_clear(Subject *self) {
   Py_DECREF(subject_forget(self, NULL));
-  Py_CLEAR(self->ups); Py_CLEAR(self->all); Py_CLEAR(self->memory);
-  return 0;
+  Py_CLEAR(self->ups); Py_CLEAR(self->all); Py_CLEAR(self->memory); Py_CLEAR(self->exception); return 0;
+}
+/* Nobody can tell its subscribers anything any more: those that hear of nothing else go. */
+static void subject_finalize(Subject *self) {
+  if (!self->ups || !PyDict_Size(self->ups)) return;
+  PyObject *error = PyErr_Occurred() ? caught_one() : NULL, *all = subscribers(self), *root;
+  for (Py_ssize_t i = 0; all && i < MANY(all); i++)
+    if ((root = alone(leaf_at(all, i)))) root_finalize(new_of(root)), Py_DECREF(root);
+  Py_XDECREF(all);
+  if (error) raise_again(error);
 }
 
 /* Commands of the Python side --------------------------------------------------------------------------------------------------*/
@@ -1034,7 +991,7 @@ static int opened(Core *core, Opening *it) {
   if (c->flags & CELLAR_WISHES) core->wishes++;
   if (it->node) it->node->node = s.node;
   if (it->other) it->other->node = s.other;
-  it->is_connected = s.is_connected && c->what == CELLAR_OPEN, it->opened = s.other;
+  it->is_connected = s.is_connected && c->what == CELLAR_OPEN, it->opened = s.other, c->hub = s.hub;
   if (thing != Py_None) {
     PyObject *hears = ITEM(thing, 0), *close = ITEM(thing, 1);
     int is_root = c->place == CELLAR_ROOT && c->what != CELLAR_CONNECT;
@@ -1044,8 +1001,7 @@ static int opened(Core *core, Opening *it) {
       if (((Leaf *)close)->above) put_first((Leaf *)close, below_of(((Leaf *)close)->above));
     }
   }
-  it->c.hub = s.hub;
-  if (it->share && PyObject_SetAttr(it->share, s_connection, (PyObject *)it->other)) return calls.stop(&core->engine, &here->turn.stack), here->turn = outer, -1;
+  if (it->share && PyObject_SetAttr(it->share, s_connection, (PyObject *)it->other)) return stop(here, core), here->turn = outer, -1;
   if (it->is_exchange && here->telling.core == core) let_pass(here);
   uint8_t status = it->first ? put_there(here, (Leaf *)ITEM(thing, 1), CELLAR_NEXT, it->first, &s) : 0;
   int failed = end(here, &outer, &s);
@@ -1066,8 +1022,7 @@ static PyObject *core_open(Core *self, PyObject *const *given, Py_ssize_t many) 
 /* The answer is in the book, or released at once; its place in the tuple was made before. Where something has `failed` that is raised. */
 static int held(Core *core, Opening *it, PyObject *tag, int failed) {
   PyObject *error = failed ? caught_one() : NULL;
-  it->c.value = (uintptr_t)tag;
-  keep(core, tag, 1);
+  it->c.value = (uintptr_t)tag, keep(core, tag, 1);
   failed = it->thing ? opened(core, it) : command(core, &it->c, NULL, &it->status);
   if (failed && error) PyErr_Clear();
   else if (failed) error = caught_one();
@@ -1084,42 +1039,38 @@ static PyObject *core_using(Core *self, PyObject *const *given, Py_ssize_t many)
   it.thing = given[2], it.node = new_key();
   PyObject *tag = it.node ? PyTuple_New(1) : NULL, *answer = tag ? PyTuple_New(2) : NULL, *resource = answer ? CALL0(given[3]) : NULL;
   if (!resource) return Py_XDECREF(it.node), Py_XDECREF(tag), Py_XDECREF(answer), NULL;
-  PyTuple_SetItem(tag, 0, new_of(resource));
-  PyTuple_SetItem(answer, 1, resource);
-  PyTuple_SetItem(answer, 0, (PyObject *)it.node);
+  PyTuple_SetItem(tag, 0, new_of(resource)), PyTuple_SetItem(answer, 1, resource), PyTuple_SetItem(answer, 0, (PyObject *)it.node);
   if (resource == Py_None) it.c.what = CELLAR_OPEN, it.c.kind = CELLAR_PASS;
   int failed = resource == Py_None ? opened(self, &it) : held(self, &it, tag, 0);
   Py_DECREF(tag);
   if (failed || (it.status && refused(it.status))) Py_CLEAR(answer);
   return answer;
 }
-/* A node, a function and its arguments: calls it, and lets the node hold the answer, with nothing between: something with `dispose`, a
- * function, or None. Where the node is closed it is released at once. */
+/* One alone enters the engine. */
 static int enter_engine(Leaf *leaf) {
   Opening it = {.c = {.what = CELLAR_OPEN, .flags = CELLAR_WISHES}};
   if (!(leaf->way & ALONE) || !leaf->at) return 0;
   if (!(it.thing = PyTuple_Pack(3, leaf->above, leaf, Py_None))) return -1;
   Root *root = (Root *)leaf->above;
-  take_out(leaf);
-  leaf->way &= ~ALONE, root->alone = NULL;
+  take_out(leaf), leaf->way &= ~ALONE, root->alone = NULL;
   int failed = opened(leaf->core, &it);
   if (it.status) leaf->way |= ALONE, root->alone = leaf, put_first(leaf, &leaf->core->alone);
   drop(it.thing, failed);
   return failed || !it.status ? failed : refused(it.status);
 }
-static PyObject *core_hold(Core *self, PyObject *given) {
+/* A node, a function and its arguments: calls it, and lets the node hold the answer, with nothing between: something with `dispose`, a
+ * function, or None. Where the node is closed it is released at once. */
+static PyObject *core_hold(Core *self, PyObject *const *given, Py_ssize_t many) {
   Opening it = {.c = {.what = CELLAR_HOLD}};
-  PyObject *call, *words = split(given, &call, 2), *tag = words ? PyTuple_New(1) : NULL, *node = tag ? ITEM(given, 0) : NULL;
-  if (!tag || !node_of(node, &it.c.node)) return Py_XDECREF(words), Py_XDECREF(tag), NULL;
-  PyObject *resource = PyObject_CallObject(call, words);
-  Py_DECREF(words);
+  PyObject *node = many ? *given : Py_None, *tag = PyTuple_New(1);
+  if (!tag || !node_of(node, &it.c.node)) return Py_XDECREF(tag), NULL;
+  PyObject *resource = call_first(given + 1, many - 1);
   if (!resource || resource == Py_None) return Py_DECREF(tag), resource;
   if (PyObject_HasAttr(resource, s_dispose)) PyTuple_SetItem(tag, 0, new_of(resource));
   else Py_DECREF(tag), tag = new_of(resource);
   int failed = Py_TYPE(node) == leaf_type ? enter_engine((Leaf *)node) : 0;
   node_of(node, &it.c.node);
-  failed = held(self, &it, tag, failed);
-  drop(tag, failed);
+  failed = held(self, &it, tag, failed), drop(tag, failed);
   if (failed || (it.status && it.status != CELLAR_GONE && refused(it.status))) Py_CLEAR(resource);
   return resource;
 }
@@ -1135,8 +1086,7 @@ static PyObject *core_share(Core *self, PyObject *const *given, Py_ssize_t many)
     if (it.is_connected && (it.other = new_key())) it.other->node = it.opened;
     answer = Py_BuildValue("(iOOK)", it.status, it.node, it.other ? (PyObject *)it.other : Py_None, it.c.hub);
   }
-  Py_XDECREF(it.node), Py_XDECREF(it.other);
-  return answer;
+  return Py_XDECREF(it.node), Py_XDECREF(it.other), answer;
 }
 /* what, the node, a value or None, or (a call,) that stands in the node's lane: the status. */
 static PyObject *core_do(Core *self, PyObject *const *given, Py_ssize_t many) {
@@ -1174,8 +1124,7 @@ static PyObject *core_leaf(Core *self, PyObject *root) {
   leaf->core = (Core *)new_of((PyObject *)self), leaf->is_fed = 1, leaf->node.slot = leaf->node.number = UINT64_MAX;
   if (root == Py_None) return (PyObject *)leaf;
   leaf->above = new_of(root), leaf->way = ALONE, ((Root *)root)->alone = leaf;
-  put_first(leaf, &self->alone);
-  return (PyObject *)leaf;
+  return put_first(leaf, &self->alone), (PyObject *)leaf;
 }
 /* Closes those that are, the oldest first, each behind what waits for it: that is heard, as of the engine. */
 static PyObject *core_shut_alone(Core *self, PyObject *Py_UNUSED(unused)) {
@@ -1209,68 +1158,54 @@ static void core_dealloc(Core *self) {
   Py_DECREF(type);
 }
 static PyMethodDef core_methods[] = {
-    {"open", FAST(core_open), METH_FASTCALL, NULL}, {"using", FAST(core_using), METH_FASTCALL, NULL}, {"hold", (PyCFunction)core_hold, METH_VARARGS, NULL},
+    {"open", FAST(core_open), METH_FASTCALL, NULL}, {"using", FAST(core_using), METH_FASTCALL, NULL}, {"hold", FAST(core_hold), METH_FASTCALL, NULL},
     {"share", FAST(core_share), METH_FASTCALL, NULL}, {"do", FAST(core_do), METH_FASTCALL, NULL}, {"shut_alone", (PyCFunction)core_shut_alone, METH_NOARGS, NULL},
     {"serve_left", (PyCFunction)core_serve_left, METH_NOARGS, NULL}, {"leaf", (PyCFunction)core_leaf, METH_O, NULL}, {NULL, NULL, 0, NULL}};
 static PyGetSetDef core_getset[] = {{"address", (getter)core_address, NULL, NULL, NULL}, {NULL, NULL, NULL, NULL, NULL}};
-static PyMemberDef core_members[] = {{"kept", T_LONGLONG, offsetof(Core, kept), READONLY, NULL}, {"many_alone", T_LONGLONG, offsetof(Core, many_alone), READONLY, NULL},
+static PyMemberDef core_members[] = {{"kept", T_LONGLONG, offsetof(Core, kept), READONLY, NULL}, {"leaves_out", T_BOOL, offsetof(Core, leaves_out), 0, NULL}, {"many_alone", T_LONGLONG, offsetof(Core, many_alone), READONLY, NULL},
                                      {"waiting", T_LONGLONG, offsetof(Core, waiting), READONLY, NULL}, {NULL, 0, 0, 0, NULL}};
 
 /* This thread ------------------------------------------------------------------------------------------------------------------*/
 
 /* Calls, and behind that does what sources put off meanwhile; unless a call further out does, where this is not to be apart from that. */
-static PyObject *trampolined(PyObject *call, PyObject *given, int is_apart) {
+static PyObject *trampolined(PyObject *const *given, Py_ssize_t many, int is_apart) {
   PyObject *before = mine.trampoline, *queue = before && !is_apart ? NULL : PyList_New(0), *answer;
-  if (!queue) return before && !is_apart ? PyObject_CallObject(call, given) : NULL;
-  mine.trampoline = queue;
-  answer = PyObject_CallObject(call, given);
+  if (!queue) return before && !is_apart ? call_first(given, many) : NULL;
+  mine.trampoline = queue, answer = call_first(given, many);
   while (answer && is_some(queue))
     if (go_on(queue)) Py_CLEAR(answer);
-  mine.trampoline = before;
-  Py_DECREF(queue);
-  return answer;
+  return mine.trampoline = before, Py_DECREF(queue), answer;
 }
-static PyObject *called(PyObject *given, int is_apart) {
-  PyObject *call, *rest = split(given, &call, 1), *answer = rest ? trampolined(call, rest, is_apart) : NULL;
-  return Py_XDECREF(rest), answer;
-}
-static PyObject *module_trampolined(PyObject *Py_UNUSED(module), PyObject *given) { return called(given, 0); }
-static PyObject *apart(PyObject *Py_UNUSED(module), PyObject *given) { return called(given, 1); }
-static PyObject *within(PyObject *given, Root *root) {
-  PyObject *call, *rest = split(given, &call, root ? 2 : 1);
-  if (!rest) return NULL;
+static PyObject *module_trampolined(PyObject *Py_UNUSED(module), PyObject *const *given, Py_ssize_t many) { return trampolined(given, many, 0); }
+static PyObject *apart(PyObject *Py_UNUSED(module), PyObject *const *given, Py_ssize_t many) { return trampolined(given, many, 1); }
+static PyObject *within(PyObject *const *given, Py_ssize_t many, Root *root) {
   Outer outer;
   struct Mine *here = enter(&outer);
-  PyObject *answer = root ? trampolined(call, rest, 0) : PyObject_CallObject(call, rest);
-  Py_DECREF(rest);
+  PyObject *answer = root ? trampolined(given, many, 0) : call_first(given, many);
   if (!answer && root) dispose_and_go_on(root);
   if (leave(here, &outer, answer ? 0 : -1, root && !root->is_over)) Py_CLEAR(answer);
   return answer;
 }
 /* A root, a function and its arguments, which opens it: where that is interrupted nothing stays open. What was raised meanwhile is raised
  * where the subscription is over, and else heard by the hook, so that the caller gets his disposable. */
-static PyObject *subscribe(PyObject *Py_UNUSED(module), PyObject *given) { return within(given, (Root *)ITEM(given, 0)); }
+static PyObject *subscribe(PyObject *Py_UNUSED(module), PyObject *const *given, Py_ssize_t many) {
+  if (!many || !is_a(*given, root_type)) return PyErr_Format(PyExc_TypeError, "a root is wanted");
+  return within(given + 1, many - 1, (Root *)*given);
+}
 /* A call of the user's: what observers and releases raise meanwhile is raised at its end. */
-static PyObject *module_call(PyObject *Py_UNUSED(module), PyObject *given) { return within(given, NULL); }
+static PyObject *module_call(PyObject *Py_UNUSED(module), PyObject *const *given, Py_ssize_t many) { return within(given, many, NULL); }
 /* Calls: what sources put off meanwhile comes behind what the lane that is served tells now, unless a call further out goes on with it. */
-static PyObject *behind_the_lane(PyObject *given, int lets_go) {
-  PyObject *call, *rest = split(given, &call, 1), *answer;
-  if (!rest) return NULL;
-  if (mine.trampoline) answer = PyObject_CallObject(call, rest);
-  else if (!mine.telling.core || (!mine.put_off && !(mine.put_off = PyList_New(0)))) answer = trampolined(call, rest, 0);
-  else {
-    mine.trampoline = mine.put_off;
-    mine.lets_go |= lets_go;
-    answer = PyObject_CallObject(call, rest);
-    mine.trampoline = NULL;
-  }
-  Py_DECREF(rest);
-  return answer;
+static PyObject *behind_the_lane(PyObject *const *given, Py_ssize_t many, int lets_go) {
+  if (mine.trampoline) return call_first(given, many);
+  if (!mine.telling.core || (!mine.put_off && !(mine.put_off = PyList_New(0)))) return trampolined(given, many, 0);
+  mine.trampoline = mine.put_off, mine.lets_go |= lets_go;
+  PyObject *answer = call_first(given, many);
+  return mine.trampoline = NULL, answer;
 }
 /* What is projected is opened. */
-static PyObject *projected(PyObject *Py_UNUSED(module), PyObject *given) { return behind_the_lane(given, 0); }
+static PyObject *projected(PyObject *Py_UNUSED(module), PyObject *const *given, Py_ssize_t many) { return behind_the_lane(given, many, 0); }
 /* What an operator subscribes to as its lane is served emits into that lane: so that it is told at once, the lane is let go for it. */
-static PyObject *fed(PyObject *Py_UNUSED(module), PyObject *given) { return behind_the_lane(given, 1); }
+static PyObject *fed(PyObject *Py_UNUSED(module), PyObject *const *given, Py_ssize_t many) { return behind_the_lane(given, many, 1); }
 static PyObject *put_off(PyObject *Py_UNUSED(module), PyObject *call) {
   if (!mine.trampoline) Py_RETURN_FALSE;
   if (PyList_Append(mine.trampoline, call)) return NULL;
@@ -1279,10 +1214,7 @@ static PyObject *put_off(PyObject *Py_UNUSED(module), PyObject *call) {
 /* What this thread puts off, if somebody goes on with it. */
 static PyObject *queue(PyObject *Py_UNUSED(module), PyObject *Py_UNUSED(unused)) { return new_of(mine.trampoline ? mine.trampoline : Py_None); }
 /* Something was raised by what is none of a call's own. */
-static PyObject *raised(PyObject *Py_UNUSED(module), PyObject *error) {
-  raise_again(new_of(error));
-  return none_or_null(caught(me()));
-}
+static PyObject *raised(PyObject *Py_UNUSED(module), PyObject *error) { return raise_again(new_of(error)), none_or_null(caught(me())); }
 /* Calls this behind all that the turns under way come to, of the innermost call of the package: so what they release is released. */
 static PyObject *behind(PyObject *Py_UNUSED(module), PyObject *call) {
   if (mine.turn.stack.depth == mine.floor) return none_or_null(plain(CALL0(call)));
@@ -1307,10 +1239,7 @@ static PyObject *pull(PyObject *Py_UNUSED(module), PyObject *const *given, Py_ss
     int status = leaf->is_stopped ? 0 : tell_up(here, given[0], value);
     drop(value, status);
     if (status || PyErr_CheckSignals()) return NULL;
-    if (!(count & 4095)) { /* where neither side is Python, no other thread would come */
-      Py_BEGIN_ALLOW_THREADS
-      Py_END_ALLOW_THREADS
-    }
+    if (!(count & 4095)) PyEval_RestoreThread(PyEval_SaveThread()); /* where neither side is Python, no other thread would come */
   }
   Py_RETURN_FALSE;
 }
@@ -1337,9 +1266,9 @@ static PyType_Slot core_slots[] = {{Py_tp_new, core_new}, {Py_tp_dealloc, core_d
 static PyMemberDef key_members[] = {{"number", T_ULONGLONG, offsetof(Key, node.number), READONLY, NULL}, {NULL, 0, 0, 0, NULL}};
 static PyType_Slot key_slots[] = {{Py_tp_members, key_members}, {0, NULL}};
 static PyType_Slot root_slots[] = {COLLECTED(Root, root), {Py_tp_finalize, root_finalize}, {Py_tp_init, root_init}, {Py_tp_getset, root_getset}, {Py_tp_members, root_members}, {0, NULL}};
-static PyType_Slot leaf_slots[] = {COLLECTED(Leaf, leaf), {Py_tp_init, leaf_init}, {Py_tp_getset, leaf_getset}, {Py_tp_members, leaf_members}, {0, NULL}};
+static PyType_Slot leaf_slots[] = {COLLECTED(Leaf, leaf), {Py_tp_init, leaf_init}, {Py_tp_members, leaf_members}, {0, NULL}};
 static PyType_Slot chain_slots[] = {COLLECTED(Chain, chain), {Py_tp_init, chain_init}, {Py_tp_getset, chain_getset}, {Py_tp_members, chain_members}, {0, NULL}};
-static PyType_Slot subject_slots[] = {COLLECTED(Subject, subject), {Py_tp_new, subject_new}, {Py_tp_members, subject_members}, {0, NULL}};
+static PyType_Slot subject_slots[] = {COLLECTED(Subject, subject), {Py_tp_new, subject_new}, {Py_tp_init, subject_init}, {Py_tp_finalize, subject_finalize}, {Py_tp_members, subject_members}, {0, NULL}};
 #define GC (Py_TPFLAGS_DEFAULT | Py_TPFLAGS_HAVE_GC)
 static PyType_Spec core_spec = {"cellarcliff._engine.Core", sizeof(Core), 0, Py_TPFLAGS_DEFAULT, core_slots};
 static PyType_Spec key_spec = {"cellarcliff._engine.Key", sizeof(Key), 0, Py_TPFLAGS_DEFAULT, key_slots};
@@ -1349,9 +1278,9 @@ static PyType_Spec chain_spec = {"cellarcliff._engine.Chain", sizeof(Chain), 0, 
 static PyType_Spec subject_spec = {"cellarcliff._engine.Subject", sizeof(Subject), 0, GC | Py_TPFLAGS_BASETYPE, subject_slots};
 
 static PyMethodDef functions[] = {
-    {"bind", bind, METH_VARARGS, NULL}, {"pull", FAST(pull), METH_FASTCALL, NULL}, {"subscribe", subscribe, METH_VARARGS, NULL},
-    {"call", module_call, METH_VARARGS, NULL}, {"trampolined", module_trampolined, METH_VARARGS, NULL}, {"projected", projected, METH_VARARGS, NULL}, {"fed", fed, METH_VARARGS, NULL},
-    {"apart", apart, METH_VARARGS, NULL}, {"put_off", put_off, METH_O, NULL}, {"queue", queue, METH_NOARGS, NULL},
+    {"bind", bind, METH_VARARGS, NULL}, {"pull", FAST(pull), METH_FASTCALL, NULL}, {"subscribe", FAST(subscribe), METH_FASTCALL, NULL},
+    {"call", FAST(module_call), METH_FASTCALL, NULL}, {"trampolined", FAST(module_trampolined), METH_FASTCALL, NULL}, {"projected", FAST(projected), METH_FASTCALL, NULL},
+    {"fed", FAST(fed), METH_FASTCALL, NULL}, {"apart", FAST(apart), METH_FASTCALL, NULL}, {"put_off", put_off, METH_O, NULL}, {"queue", queue, METH_NOARGS, NULL},
     {"raised", raised, METH_O, NULL}, {"behind", behind, METH_O, NULL}, {"finish", finish, METH_O, NULL}, {"forked", forked, METH_NOARGS, NULL}, {NULL, NULL, 0, NULL}};
 static struct PyModuleDef definition = {PyModuleDef_HEAD_INIT, "_engine", NULL, -1, functions, NULL, NULL, NULL, NULL};
 

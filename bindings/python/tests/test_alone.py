@@ -34,7 +34,7 @@ class Program:
     def __init__(self, seed, is_alone, interrupts=False):
         self.random, self.interrupts = random.Random(seed), interrupts
         self.engine = rx.use(kits.fresh_engine())
-        self.engine.leaves_alone = is_alone
+        self.engine.core.leaves_out = is_alone
         self.trace, self.subscriptions, self.told, self.depth, self.kept = [], [], {}, 0, []
         self.left = self.random.choice((20, 60, 200))  # how many things callbacks do in all
         kinds = (Subject, Subject, Subject, lambda: BehaviorSubject(0), lambda: ReplaySubject(2), AsyncSubject)
@@ -227,7 +227,7 @@ class Alone(unittest.TestCase):
     def test_what_waits_is_told_though_all_is_closed(self):
         for is_alone in (False, True):
             engine, subject, told = rx.use(kits.fresh_engine()), Subject(), []
-            engine.leaves_alone = is_alone
+            engine.core.leaves_out = is_alone
 
             def one(it):
                 told.append(it)
@@ -244,7 +244,7 @@ class Alone(unittest.TestCase):
     def test_what_another_thread_tells_is_released_behind_that(self):
         for is_alone in (False, True):
             engine, subject, told, is_told, goes_on = rx.use(kits.fresh_engine()), Subject(), [], threading.Event(), threading.Event()
-            engine.leaves_alone = is_alone
+            engine.core.leaves_out = is_alone
 
             def slow(it):
                 is_told.set()

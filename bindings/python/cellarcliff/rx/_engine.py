@@ -82,11 +82,12 @@ class Engine:
     """An engine of libcellarcliff."""
 
     opens: Any = None  # what opens a root that the user subscribes: open_root() of _observable.py
-    leaves_alone = IS_EXTENSION  # whether a root that is a source alone and holds nothing may go without the engine: it is in no history
+    leaves_out = IS_EXTENSION  # whether what needs no engine may go without: it is in no history
 
     def __init__(self, max_events: int = 0) -> None:
         bind(refuse, on_unhandled)
         self.core = C.Core(max_events)
+        self.core.leaves_out = self.leaves_out and not max_events  # what is told may have to enter it, and may be refused by no bound
         self._process, self._calls = os.getpid(), None  # type: Any, Any
 
     def open(self, at: At, kind: int, close: Any = None, project: Optional[Callable[[Any], Any]] = None, *first: Any, what: int = OPEN,
@@ -110,13 +111,13 @@ class Engine:
 
     def source(self, at: At, holds: bool = False) -> Any:
         """Opens a source, which may hold something: its leaf, for who tells it something, and holds it."""
-        root = at.root
-        if self.leaves_alone and at.place == ROOT and not holds:
-            at.node = self.core.leaf(root)  # what holds something there takes it into the engine
+        core, root = self.core, at.root
+        if core.leaves_out and at.place == ROOT and not holds:
+            at.node = core.leaf(root)  # what holds something there takes it into the engine
             return at.node
-        leaf = self.core.leaf(None)
+        leaf = core.leaf(None)
         leaf.above, at.holder = at.holder, leaf
-        at.node = self.core.open(at.place | WISHES, at.above, (root, leaf, None), None, at.is_exchange)
+        at.node = core.open(at.place | WISHES, at.above, (root, leaf, None), None, at.is_exchange)
         return leaf
 
     def using(self, at: At, factory: Callable[[], Any]) -> Tuple[At, Any]:

@@ -604,12 +604,23 @@ class Subject:
     _limit: int
     is_stopped: bool
     is_disposed: bool
+    exception: Any
 
     def __new__(cls, *_: Any, **__: Any) -> Any:
         self = super().__new__(cls)
         self._ups, self._memory, self._limit, self._order = {}, None, -1, threading.RLock()
-        self.is_stopped = self.is_disposed = False
+        self.is_stopped, self.is_disposed, self.exception = False, False, None
         return self
+
+    def __init__(self) -> None:
+        pass
+
+    def __del__(self) -> None:
+        """Nobody can tell its subscribers anything any more: those that hear of nothing else go."""
+        for leaf in tuple(self._ups):
+            root = leaf.alone
+            if root is not None:
+                root.unsubscribe()
 
     def on_next(self, value: Any) -> None:
         """Tells the item to each that subscribed."""

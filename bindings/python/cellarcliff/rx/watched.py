@@ -97,7 +97,7 @@ class Watched(Engine):
     """An engine that remembers where what is open was made. `max_events` as of an engine: behind so many events it makes a
     checkpoint, and its history is whole no more; with 0 it chooses."""
 
-    leaves_alone = False
+    leaves_out = False
 
     def __init__(self, max_events: int = 0, skipped: FrozenSet[str] = SKIPPED) -> None:
         super().__init__(max_events)

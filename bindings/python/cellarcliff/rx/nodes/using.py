@@ -32,7 +32,8 @@ class Using(Around):
         except Exception as error:  # where it takes the place of something, that has given way already
             self._wrap(Throw(error, None))._open(at if at.node is None else at.inside(at.node))
             return
-        open_below(self._wrap(made(self._make_source, resource)), below)
+        source = made(self._make_source, resource)
+        open_below(source if self._wrap is to_observable else self._wrap(source), below)
 
     def _open_with(self, at: At, makes: Any) -> bool:
         return False

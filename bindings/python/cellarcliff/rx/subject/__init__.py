@@ -26,6 +26,7 @@ if TYPE_CHECKING:
 
         is_stopped: bool
         is_disposed: bool
+        exception: Optional[Exception]
         _ups: Dict[Any, Any]
         _memory: Any
         _limit: int
@@ -48,9 +49,6 @@ class Subject(_Base, Observable[S], Observer):
         def on_next(self, value: S) -> None: ...
 
     _is_hot = True
-
-    def __init__(self) -> None:
-        self.exception: Optional[Exception] = None
 
     def __init_subclass__(cls, **words: Any) -> None:
         super().__init_subclass__(**words)
@@ -104,8 +102,9 @@ class Subject(_Base, Observable[S], Observer):
 
     def on_error(self, error: Exception) -> None:
         """Hands on the error; later subscribers receive it too."""
-        self.check_disposed()
-        if not self.is_stopped:
+        if self.is_stopped:
+            self.check_disposed()
+        else:
             self.exception = error
             self._on_error_core(error)
 
@@ -115,8 +114,9 @@ class Subject(_Base, Observable[S], Observer):
 
     def on_completed(self) -> None:
         """Hands on the completion; later subscribers receive it too."""
-        self.check_disposed()
-        if not self.is_stopped:
+        if self.is_stopped:
+            self.check_disposed()
+        else:
             self._on_completed_core()
 
     def _on_completed_core(self) -> None:
@@ -128,13 +128,6 @@ class Subject(_Base, Observable[S], Observer):
         self.is_disposed = self.is_stopped = True
         self._forget()
         self.exception = None
-
-    def __del__(self) -> None:
-        """Nobody can tell its subscribers anything any more: those that hear of nothing else go."""
-        for leaf in tuple(self._ups):
-            root = leaf.alone
-            if root is not None:
-                root.unsubscribe()
 
     def __repr__(self) -> str:
         state = "disposed" if self.is_disposed else "ended" if self.is_stopped else "open"
