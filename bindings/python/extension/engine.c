@@ -41,6 +41,8 @@ static struct {
 typedef struct Leaf Leaf;
 typedef struct Root Root;
 typedef struct { PyObject_HEAD struct cellar_node node; } Key;
+/* An item that is told, whose command is not made yet: at `here`, of this leaf. Its ticket, once it is. */
+typedef struct { struct Mine *here; Leaf *leaf; PyObject *value; uint64_t ticket; } Unmade;
 typedef struct {
   PyObject_HEAD
   struct cellar engine;
@@ -49,7 +51,9 @@ typedef struct {
   uint64_t *closed;                   /* a ring: words of nodes that closed and did not hear of it yet */
   size_t room, first, many, wishes;   /* its size, a power of two, is at least `wishes`: nodes that are to hear of it */
   unsigned generation;                /* a child of a fork has no part in an engine of its parent */
-  char leaves_out;                    /* what needs no engine may go without */
+  int turns;                          /* how many of the calls under way, of any thread, may have effects in it */
+  Unmade *unmade;                     /* the item whose command is not made yet, or NULL */
+  char leaves_out;                    /* items of which nothing comes may go without it */
 } Core;
 struct Root {
   PyObject_HEAD
@@ -76,6 +80,7 @@ struct Leaf {
   PyObject *thing;          /* as of a root */
   int owed;
   PyObject *above;          /* the root or leaf that is held while this is open, or NULL */
+  Root *hears;              /* not held: who alone hears its items, and nothing else comes of them; or NULL, where that is not known */
   Leaf *below, *next, **at; /* not held: those that are open below it, and its place among those below the same, or alone */
   struct Waiting *waits, **last, own; /* notes, of which one needs no memory */
   char is_stopped, is_fed, way;  /* is_fed: who can tell it something holds it */
@@ -126,6 +131,7 @@ static _Thread_local struct Mine {
   uint64_t ident, floor;
   PyObject *errors, *trampoline, *put_off, *behind;
   Turn turn, telling;
+  Unmade *unmade; /* what it tells and did not make, innermost */
 } mine;
 /* Asked once on the way of an item: to find what is a thread's own takes a call each time. */
 static __attribute__((noinline)) struct Mine *here_is(void) {
@@ -263,11 +269,31 @@ static void take_in_closed(Core *core, const struct cellar_stepped *s) {
     for (uint64_t i = 0; i < count; i++) put_closed(core, more[i]);
   }
 }
-/* Begins a turn: the one further out. */
-static Turn begin(struct Mine *here, Core *core) {
+/* An item that only one root hears, where nothing is under way or waits, is told before its command is made. The next call, of whichever thread, makes that
+ * first, by the stack of the turn that tells it; so it is as if it had been made, and what comes of it handed out, at the beginning. Where no call comes
+ * the item is left out, as one may be that is only heard. */
+static void make_now(Unmade *it) {
+  struct Mine *here = it->here;
+  Core *core = it->leaf->core;
+  struct cellar_command c = {.what = CELLAR_NEXT, .node = it->leaf->node, .value = (uintptr_t)it->value};
+  struct cellar_stepped s;
+  here->unmade = core->unmade = NULL;
+  if (core->generation != generation || calls.step(&core->engine, &here->turn.stack, &c, &s)) return;
+  keep(core, it->value, s.copies);
+  here->turn.stack.begun = here->telling.stack.begun = it->ticket = s.ticket;
+}
+/* Begins a turn, which makes no command itself: the one further out. */
+static Turn begin_turn(struct Mine *here, Core *core) {
+  if (here->unmade) make_now(here->unmade);
   Turn outer = here->turn;
   here->turn = (Turn){core, {here->ident, outer.stack.depth + 1, outer.core == core ? outer.stack.begun : 0}};
   return outer;
+}
+/* The same of one that does. */
+static Turn begin(struct Mine *here, Core *core) {
+  if (core->unmade && core->generation == generation) make_now(core->unmade); /* else its thread is none of this process */
+  core->turns++;
+  return begin_turn(here, core);
 }
 /* Makes a command in the turn that has begun, and takes in what it closed: the status. */
 static uint8_t make(struct Mine *here, const struct cellar_command *c, struct cellar_stepped *s) {
@@ -284,9 +310,11 @@ static inline int end_turn(struct Mine *here, const Turn *outer, int failed) {
   here->turn = *outer;
   return here->behind && outer->stack.depth == here->floor ? do_behind(here, failed) : failed;
 }
-/* The same: does what was handed out, and what comes of it. */
+/* The same of one that does: does what was handed out, and what comes of it. */
 static inline int end(struct Mine *here, const Turn *outer, struct cellar_stepped *s) {
-  return end_turn(here, outer, s->handed || here->turn.core->many ? do_all(here, s) : 0);
+  Core *core = here->turn.core;
+  int failed = s->handed || core->many ? do_all(here, s) : 0;
+  return core->turns--, end_turn(here, outer, failed);
 }
 /* Makes a command of this value, or of none, and does what comes of it. */
 static int command(Core *core, const struct cellar_command *c, PyObject *value, uint8_t *status) {
@@ -484,11 +512,40 @@ static uint8_t put_there(struct Mine *here, Leaf *leaf, uint8_t what, PyObject *
   if (status != CELLAR_GONE) return status;
   return leaf->is_stopped = 1, 0;
 }
+/* Tells an item whose command is not made yet. */
+static int tell_unmade(struct Mine *here, Leaf *leaf, PyObject *value) {
+  Core *core = leaf->core;
+  Root *root = leaf->hears;
+  Unmade it = {here, leaf, value, 0};
+  struct cellar_stepped s;
+  Turn outer = begin(here, core);
+  Telling telling = begin_telling(here, here->ident);
+  here->unmade = core->unmade = &it, s.handed = 0, Py_INCREF(root);
+  int status = root_tell(here, root, value) ? caught(here->ident) : 0;
+  if (here->unmade && is_some(here->put_off)) make_now(&it);
+  if (here->unmade) here->unmade = core->unmade = NULL;
+  if (!status) status = do_put_off(here, here->ident);
+  end_telling(here, &telling);
+  if (it.ticket) core->kept--, drop(value, status);
+  if (it.ticket && status) stop(here, core);
+  else if (it.ticket && core->generation == generation) calls.next(&core->engine, &here->turn.stack, &s);
+  status = status ? core->turns--, end_turn(here, &outer, status) : end(here, &outer, &s);
+  return drop((PyObject *)root, status), status;
+}
+/* An item of this leaf was handed out as it was made: if its root hears that, and no share is between, it hears all of them. */
+static void find_hears(Leaf *leaf, PyObject *user) {
+  PyObject *it = leaf->above;
+  while (it && Py_TYPE(it) == leaf_type) it = ((Leaf *)it)->above;
+  if (it && it == ITEM(user, 0)) leaf->hears = (Root *)it;
+}
 /* The same, and to whoever is to hear it. */
 static int note_there(struct Mine *here, Leaf *leaf, uint8_t what, PyObject *value) {
+  Core *core = leaf->core;
+  if (what == CELLAR_NEXT && leaf->hears && !core->turns && core->generation == generation && !PyList_Size(left)) return tell_unmade(here, leaf, value);
   struct cellar_stepped s;
-  Turn outer = begin(here, leaf->core);
+  Turn outer = begin(here, core);
   uint8_t status = put_there(here, leaf, what, value, &s);
+  if (!status && core->leaves_out && s.handed && s.own && s.effect.kind == CELLAR_E_NEXT && !s.closed) find_hears(leaf, word(s.effect.user));
   int failed = end(here, &outer, &s);
   return failed || !status ? failed : refused(status);
 }
@@ -534,7 +591,7 @@ static int hears(struct Mine *here, Leaf *leaf, uint8_t what, PyObject *value) {
 /* Tells this, unless that is NULL, and what waits; with what sources put off meanwhile, as a lane is served. */
 static int tell_alone(struct Mine *here, Leaf *leaf, uint8_t what, PyObject *value) {
   Core *core = leaf->core;
-  Turn outer = begin(here, core);
+  Turn outer = begin_turn(here, core);
   Telling telling = begin_telling(here, 0);
   struct Waiting it = {NULL, value, here->ident, what};
   int status = 0, is_busy = 1;
@@ -793,7 +850,7 @@ static int put_all(struct Mine *here, Core *core, PyObject *all, uint8_t what, P
   }
   if (s.handed || core->many) failed = do_all(here, &s);
   for (Py_ssize_t i = 0; i < MANY(values); i++) failed = ITEM(values, i) ? tell_waiting(here, leaf_at(all, i), failed) : failed;
-  failed = end_turn(here, &outer, failed);
+  core->turns--, failed = end_turn(here, &outer, failed);
   return failed || !refusal ? failed : refused(refusal);
 }
 static int tell_all(struct Mine *here, PyObject *all, uint8_t what, PyObject *value) {
@@ -1001,7 +1058,7 @@ static int opened(Core *core, Opening *it) {
       if (((Leaf *)close)->above) put_first((Leaf *)close, below_of(((Leaf *)close)->above));
     }
   }
-  if (it->share && PyObject_SetAttr(it->share, s_connection, (PyObject *)it->other)) return stop(here, core), here->turn = outer, -1;
+  if (it->share && PyObject_SetAttr(it->share, s_connection, (PyObject *)it->other)) return core->turns--, stop(here, core), here->turn = outer, -1;
   if (it->is_exchange && here->telling.core == core) let_pass(here);
   uint8_t status = it->first ? put_there(here, (Leaf *)ITEM(thing, 1), CELLAR_NEXT, it->first, &s) : 0;
   int failed = end(here, &outer, &s);

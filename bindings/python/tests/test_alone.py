@@ -263,6 +263,49 @@ class Alone(unittest.TestCase):
             counts = engine.counts()
             self.assertEqual((sorted(told, key=str), counts[:3], counts.effects, engine.core.kept), ([1, 2, "released"], (0, 0, 0), 0, 0), is_alone)
 
+    def test_items_of_which_nothing_comes_are_left_out(self):
+        for leaves_out in (False, True):
+            engine, subject, told = rx.use(kits.fresh_engine()), Subject(), []
+            engine.core.leaves_out = leaves_out
+            rx.merge(subject, rx.never()).subscribe(told.append)
+            subject.on_next(0)
+            before = engine.counts().events
+            for it in range(1, 10):
+                subject.on_next(it)
+            self.assertEqual((told, engine.counts().events - before), ([*range(10)], 0 if leaves_out else 9))
+
+    def test_what_comes_as_an_item_is_told_comes_behind_it(self):
+        def emit(other, _):
+            other.on_next(20)
+
+        def emit_elsewhere(other, _):
+            thread = threading.Thread(target=other.on_next, args=(20,))
+            thread.start()
+            thread.join()
+
+        def end(other, subscription):
+            subscription[0].dispose()
+            other.on_next(20)
+        for act in emit, emit_elsewhere, end, lambda other, _: other.on_completed(), lambda *_: rx.of(3).pipe(ops.start_with(0)).subscribe(lambda _: None):
+            found = []
+            for leaves_out in (False, True):
+                engine, subject, other, told, subscription = rx.use(kits.fresh_engine()), Subject(), Subject(), [], []
+                engine.core.leaves_out = leaves_out
+
+                def hear(it):
+                    told.append((it, threading.get_ident()))
+                    if it == 2:
+                        act(other, subscription)
+                        told.append("heard")
+                held = rx.using(lambda: Disposable(partial(told.append, "released")), lambda _: other)
+                subscription.append(rx.merge(subject, held).subscribe(hear))
+                for it in (1, 2, 3):
+                    subject.on_next(it)
+                engine.close()
+                self.assertEqual((engine.counts()[:3], engine.counts().effects, engine.core.kept), ((0, 0, 0), 0, 0))
+                found.append(told)
+            self.assertEqual(*found)
+
     def test_each_hears_the_same_where_calls_are_left(self):
         for seed in range(FIRST, FIRST + MANY):
             (a, _), (b, _) = (self.run_one(seed, it, interrupts=True) for it in (False, True))
