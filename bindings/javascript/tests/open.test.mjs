@@ -50,6 +50,12 @@ export const only_ours = {
     const it = rx.dump();
     say(it === null || it instanceof Uint8Array);
   }, [true]),
+  'who is closed hears nothing': test((rx, say) => {
+    const noted = { next: () => say('item'), complete: () => say('end'), error: () => say('error') };
+    rx.forkJoin([rx.NEVER, rx.NEVER]).subscribe(noted);
+    rx.forkJoin([new rx.Observable(() => () => say('released')), rx.NEVER]).subscribe(noted);
+    rx.close();
+  }, ['released']),
   'nothing is left open': test(async (rx, say) => {
     const { nodes, held } = rx.counts();
     const sub = rx.interval(1).pipe(rx.mergeMap((x) => rx.timer(1)), rx.share(), rx.finalize(() => {})).subscribe();

@@ -23,10 +23,15 @@ class Lones {
     }
   }
   left(leaf) { if (this.#lately[leaf._at] === leaf) this.#lately[leaf._at] = null; }
-  all() { return [...this.#loose.map((it) => it.deref()), ...this.#lately].filter(isOpenLone); }
-  /** Leaves all of them. */
-  shut() {
-    for (const it of this.all()) {
+  /** In the order in which they came. */
+  all() {
+    const next = this.#now + 1;
+    return [...this.#loose.map((it) => it.deref()), ...this.#lately.slice(next), ...this.#lately.slice(0, next)].filter(isOpenLone);
+  }
+  /** Leaves those of a list that are open. */
+  leave(list) {
+    for (const it of list) {
+      if (!isOpenLone(it)) continue;
       loneLeft(it);
       it.hears.heardGone();
     }

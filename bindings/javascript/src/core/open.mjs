@@ -33,7 +33,4 @@ const shown = (place) => place && `${place.function ? `${place.function} ` : ''}
 export const made = () => realm.engine.things().filter((it) => it.where !== undefined)
   .map((it) => ({ what: it.what, place: placeOf(it.where), stack: it.where.stack, since: it.since, node: it.lo + it.hi * 2 ** 32 }));
 /** Closes all that is open. */
-export const close = () => {
-  lones.shut();
-  realm.engine.shut();
-};
+export const close = () => realm.closes();

@@ -12,10 +12,13 @@ export const realm = globalThis[KEY] ??= {
     if (this.engine) return;
     this.make = () => new Crossing(new WebAssembly.Instance(module).exports, glue, this);
     this.engine = this.make();
-    atTheEnd(() => {
-      this.lones?.shut();
-      if (this.engine.dead === null) this.engine.shut();
-    });
+    atTheEnd(() => { if (this.engine.dead === null) this.closes(); else this.lones?.leave(this.lones.all()); });
+  },
+  /** Closes all that is open, what stands above first: no root of the engine stands below one that needs none. */
+  closes() {
+    const lones = this.lones?.all() ?? [];
+    this.engine.shut();
+    this.lones?.leave(lones);
   },
   /** Has another engine in the place of this one, which is dead. */
   renews(dead) {
