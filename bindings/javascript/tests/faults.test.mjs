@@ -34,6 +34,9 @@ export const tests = {
     rx.zip(rx.NEVER, fails).subscribe({ error: () => say('error') });
     rx.zip(rx.NEVER, fails.pipe(rx.map((x) => x), rx.switchMap(() => rx.NEVER))).subscribe({ error: () => say('error of an inner') });
   }, ['unhandled x', 'unhandled x'], ['error']),
+  'an input of forkJoin ends at once and its teardown throws': test((rx, say) => {
+    rx.forkJoin([rx.of(1).pipe(rx.finalize(() => { throw new Error('x'); })), rx.NEVER]).subscribe({ error: () => say('error') });
+  }, ['unhandled x'], []),
   'what retry repeats fails at once and its teardown throws': test((rx, say) => {
     const fails = new rx.Observable((to) => { say('made'); to.error(new Error('no')); return () => { throw new Error('x'); }; });
     fails.pipe(rx.retry(1)).subscribe({ error: ({ message }) => say(`error ${message}`) });

@@ -32,8 +32,7 @@ function notifies(other, place) {
   if (!other.operator && isLeaf(other)) return openAt(other, place);
   const leaf = openLeaf(place);
   if (leaf === null) return;
-  const link = new Link(leaf, undefined, () => link.unsubscribe());
-  try { other.subscribe(link); } catch (error) { failing(leaf, error); }
+  try { other.subscribe(new Link(leaf, undefined, noop)); } catch (error) { failing(leaf, error); }
 }
 
 export function takeUntil(notifier) {

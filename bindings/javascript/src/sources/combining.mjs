@@ -60,21 +60,17 @@ export function forkJoin(...words) {
     let active = length, with_none = length;
     for (let i = 0; i < length; i++) {
       let has = false;
-      const link = new Link(to, (value) => {
+      innerFrom(inputs[i]).subscribe(new Link(to, (value) => {
         if (!has) {
           has = true;
           with_none--;
         }
         values[i] = value;
-      }, () => {
-        active--;
-        link.unsubscribe();
-      }, undefined, () => {
+      }, () => { active--; }, undefined, () => {
         if (active && has) return;
         if (with_none === 0) to.next(keys ? objectOf(keys, values) : values);
         to.complete();
-      });
-      innerFrom(inputs[i]).subscribe(link);
+      }));
     }
   }), call);
 }
