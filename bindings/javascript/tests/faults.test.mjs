@@ -37,6 +37,14 @@ export const tests = {
   'an input of forkJoin ends at once and its teardown throws': test((rx, say) => {
     rx.forkJoin([rx.of(1).pipe(rx.finalize(() => { throw new Error('x'); })), rx.NEVER]).subscribe({ error: () => say('error') });
   }, ['unhandled x'], []),
+  'what is retried, repeated or expanded at once, and never ends, is an error': test((rx, say) => {
+    const heard = { error: ({ name, message }) => say(`${name}: ${message}`) }, fails = rx.concat(rx.of(1), rx.throwError(() => new Error('no')));
+    fails.pipe(rx.retry({ count: 2, delay: () => rx.of(0), resetOnSuccess: true })).subscribe(heard);
+    rx.of(1).pipe(rx.repeat({ delay: () => rx.of(0) })).subscribe(heard);
+    rx.of(1).pipe(rx.expand((it) => rx.of(it))).subscribe(heard);
+    rx.of(1).pipe(rx.repeat({ count: 200000 }), rx.count()).subscribe(say);
+  }, ['RangeError: cellarcliff: what was repeated came 100000 times at once', 'RangeError: cellarcliff: what was repeated came 100000 times at once',
+    'RangeError: cellarcliff: 100000 expansions came each at once within the one before', 200000], ['unhandled Maximum call stack size exceeded']),
   'what retry repeats fails at once and its teardown throws': test((rx, say) => {
     const fails = new rx.Observable((to) => { say('made'); to.error(new Error('no')); return () => { throw new Error('x'); }; });
     fails.pipe(rx.retry(1)).subscribe({ error: ({ message }) => say(`error ${message}`) });

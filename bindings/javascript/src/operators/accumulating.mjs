@@ -1,5 +1,6 @@
 // An observable for each item and what has come of the others before it.
 import { FLAT, SWITCH } from '../engine/codes.mjs';
+import { MOST } from '../engine/crossing.mjs';
 import { Stage } from '../core/leaf.mjs';
 import { Link } from '../core/link.mjs';
 import { operate } from '../core/operator.mjs';
@@ -70,6 +71,7 @@ export function expand(project, concurrent = Infinity, scheduler) {
       const lists = [[first]];
       try {
         while (lists.length && !to.closed) {
+          if (lists.length > MOST) throw new RangeError(`cellarcliff: ${MOST} expansions came each at once within the one before`);
           const list = lists[lists.length - 1];
           if (list.length === 0) lists.pop();
           else if (active >= concurrent) waiting.push(list.shift());

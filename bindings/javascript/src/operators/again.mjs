@@ -3,21 +3,24 @@ import { Link } from '../core/link.mjs';
 import { operate } from '../core/operator.mjs';
 import { Subject } from '../core/subject.mjs';
 import { noop } from '../core/util.mjs';
+import { MOST } from '../engine/crossing.mjs';
 import { innerFrom } from '../sources/from.mjs';
 import { EMPTY } from '../sources/simple.mjs';
 import { timer } from '../sources/timer.mjs';
 
-/** Subscribes again and again without depth: `start` is called while somebody asked for it meanwhile. */
-function looping(start) {
+/** Subscribes again and again without depth: `start` is called while somebody asked for it meanwhile. What never ends by itself, and goes on at once each
+ *  time, is an error behind so many. */
+function looping(to, is_endless, start) {
   let is_busy = false, is_asked = false;
   return () => {
     is_asked = true;
     if (is_busy) return;
     is_busy = true;
     try {
-      while (is_asked) {
+      for (let many = 0; is_asked; many++) {
         is_asked = false;
-        start();
+        if (is_endless && many === MOST) to.error(new RangeError(`cellarcliff: what was repeated came ${MOST} times at once`));
+        else start();
       }
     } finally { is_busy = false; }
   };
@@ -48,7 +51,7 @@ export function repeat(countOrConfig) {
   if (count <= 0) return () => EMPTY;
   return operate((source, to) => {
     let so_far = 0;
-    const again = looping(() => {
+    const again = looping(to, count === Infinity, () => {
       let is_subscribing = true, is_over = false;
       const goesOn = () => {
         inner.unsubscribe();
@@ -72,7 +75,7 @@ export function retry(configOrCount = Infinity) {
   if (count <= 0) return (source) => source;
   return operate((source, to) => {
     let so_far = 0;
-    const again = looping(() => {
+    const again = looping(to, count === Infinity || resetOnSuccess, () => {
       const inner = new Link(to, (value) => {
         if (resetOnSuccess) so_far = 0;
         to.next(value);
@@ -115,7 +118,7 @@ const when = (of_error) => (notifier) => operate((source, to) => {
     return ends;
   };
   let is_asked = false;
-  const again = looping(() => {
+  const again = looping(to, true, () => {
     is_source_over = is_asked = false;
     inner?.unsubscribe();
     inner = new Link(to, undefined, of_error ? undefined : () => {
@@ -133,7 +136,7 @@ export const retryWhen = when(true);
 export function onErrorResumeNextWith(source, others) {
   const all = [source, ...others];
   return operate((_, to) => {
-    const again = looping(() => {
+    const again = looping(to, false, () => {
       if (to.closed || to.isStopped) return;
       if (all_left.length === 0) return to.complete();
       let next;
