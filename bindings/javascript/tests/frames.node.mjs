@@ -41,7 +41,7 @@ async function overFrames(act) {
   WebAssembly.Instance = function (...words) {
     const { exports } = new Instance(...words);
     if (!exports.goOn) return { exports };
-    const looking = Object.entries({ all: 3, step: 3, next: 3, go: 3, open: 2, make: 1, pass: 1 }).map(([name, steps]) => [name, (...them) => (look(steps), exports[name](...them))]);
+    const looking = Object.entries({ all: 3, step: 3, end: 3, next: 3, go: 3, open: 2, make: 1, pass: 1 }).map(([name, steps]) => [name, (...them) => (look(steps), exports[name](...them))]);
     return { exports: { ...exports, ...Object.fromEntries(looking), room: (n) => look(n + 1) } };
   };
   try { realm.engine = realm.make(); } finally { WebAssembly.Instance = Instance; }

@@ -20,13 +20,12 @@ import { Things } from './things.mjs';
 
 const STOPPED = 'cellarcliff: the engine stopped within a call';
 export const MOST = 100000; // items from within one command, each because of the one before: what goes on behind that never ends
-const THE_NEXT = -1; // of a value: the word that the next one has
 const REFUSED = { 4: 'no memory is left', 16: 'too much is open', 29: 'a node holds too many resources' };
 // Where the numbers of an answer stand.
 const OTHER_AT = 4, CONNECTED_AT = 8, HUB_AT = 10, COPIES_AT = 12, CLOSED_AT = 14, CLOSINGS_AT = 16, HANDED_AT = 32, OWN_AT = 34, USER_AT = 40, VALUE_AT = 42, KIND_AT = 46, CARRIES_AT = 47, SHOWN = 8;
 
 export class Crossing {
-  #realm; #wasm; #glue; #base; #places; #c; #a; #words;
+  #realm; #wasm; #glue; #base; #places; #a; #words;
   #things = new Things(this); #values = new Table();
   #depth = 0; #made = 0; // how many calls are under way, and how many commands were given
   #is_begun = false; // whether what the last command hands out can be told now
@@ -59,7 +58,6 @@ export class Crossing {
   // Memory that has grown detaches each view of it: then all are made anew.
   #look() {
     const { buffer } = this.#wasm.memory, at = (place) => this.#base + LAYOUT[place];
-    this.#c = new Int32Array(buffer, at('command'), 16);
     this.#a = new Int32Array(buffer, at('stepped'), 48);
     this.#words = new Int32Array(buffer, at('words'), 2 * LAYOUT.room);
   }
@@ -72,7 +70,7 @@ export class Crossing {
       this.#renews();
       throw this.dead;
     };
-    this.#glue = { room: dies, make: dies, give: dies, open: dies, step: dies, next: dies, goOn: dies, go: dies, pass: dies, all: dies, entered: { value: 1 } };
+    this.#glue = { room: dies, make: dies, open: dies, step: dies, end: dies, next: dies, give: dies, goOn: dies, go: dies, pass: dies, share: dies, all: dies, entered: { value: 1 } };
     this.#wasm = { ...this.#wasm, cellar_totals: dies, cellar_dump: dies, cellar_closings: dies };
     for (const it of this.#things.all()) it.slot = it.top = it.lo = it.hi = -1; // a key that names nothing, in any engine
     this.#renews();
@@ -117,33 +115,34 @@ export class Crossing {
     if (this.#postponed !== null && this.#depth === 0) this.#resume();
   }
 
-  #make(what, node, user, value, opens = false, share = null) {
+  // Gives a command, with room for all that comes of it if there is so much.
+  #make(what, slot, top, lo, hi, user, value, opens = false) {
     if (this.#given !== this.#many) this.#gives();
-    const c = this.#command();
-    c[0] = what;
-    c[1] = share === null ? 0 : share.level, c[2] = share === null ? 0 : share.hub, c[3] = share === null ? 0 : share.hubHigh;
-    c[4] = node.slot, c[5] = node.top, c[6] = node.lo, c[7] = node.hi;
-    c[8] = user, c[10] = value === THE_NEXT ? this.#values.next() : value;
-    return this.#give(opens);
-  }
-  #command() {
-    if (this.#c.length === 0) this.#look();
-    return this.#c;
-  }
-  // Gives what was written, with room for all that comes of it if there is so much. An opening wants more room than others, so that a resource can be held behind it.
-  #give(opens) {
     const depth = this.#depth + 1;
     let status;
     this.#is_begun = true;
-    try { status = this.#glue.step(depth); } catch (error) {
-      const why = this.#failed(error);
-      if (this.dead !== null) throw why;
-      this.#is_begun = false;
-      try { status = opens ? this.#glue.open(depth) : this.#glue.make(depth); } catch (it) { throw this.#failed(it); }
-    }
+    try { status = this.#glue.step(depth, what, slot, top, lo, hi, user, value); } catch (error) { status = this.#makesAlone(error, opens, depth, what, slot, top, lo, hi, user, value); }
     this.#made++;
     if (this.#a.length === 0) this.#look();
     return status;
+  }
+  /** The same of one that reads its node alone. */
+  #makeOf(what, { slot, top, lo, hi }, opens = false) {
+    if (this.#given !== this.#many) this.#gives();
+    const depth = this.#depth + 1;
+    let status;
+    this.#is_begun = true;
+    try { status = this.#glue.end(depth, what, slot, top, lo, hi); } catch (error) { status = this.#makesAlone(error, opens, depth, what, slot, top, lo, hi, 0, 0); }
+    this.#made++;
+    if (this.#a.length === 0) this.#look();
+    return status;
+  }
+  // Without room for what comes of it. An opening wants more room than others, so that a resource can be held behind it.
+  #makesAlone(error, opens, ...command) {
+    const why = this.#failed(error);
+    if (this.dead !== null) throw why;
+    this.#is_begun = false;
+    try { return opens ? this.#glue.open(...command) : this.#glue.make(...command); } catch (it) { throw this.#failed(it); }
   }
 
   /** Opens a node of this kind at a place, of which a thing is told; behind `begins`. A tag is held by it from the start; a share has its word and hub. */
@@ -153,7 +152,9 @@ export class Crossing {
     const user = owed ? this.#things.take(thing) : 0, tagWord = tag === null ? 0 : this.#things.take(tag);
     let status = -1;
     try {
-      status = this.#make((tag === null ? OPEN : USING) | place << 8 | kind << 16 | flags << 24, above, user, tag !== null ? tagWord : share !== null ? share.word : 0, true, share);
+      if (share !== null) this.#glue.share(share.level, share.hub, share.hubHigh);
+      status = this.#make((tag === null ? OPEN : USING) | place << 8 | kind << 16 | flags << 24, above.slot, above.top, above.lo, above.hi, user,
+        tag !== null ? tagWord : share !== null ? share.word : 0, true);
     } finally {
       if (status !== DONE) {
         if (tag !== null) this.#things.free(tagWord);
@@ -197,7 +198,7 @@ export class Crossing {
     this.begins();
     const word = this.#things.take(tag);
     let status = -1;
-    try { status = this.#make(HOLD, node, 0, word); } finally { if (status !== DONE) this.#things.free(word); }
+    try { status = this.#make(HOLD, node.slot, node.top, node.lo, node.hi, 0, word); } finally { if (status !== DONE) this.#things.free(word); }
     if (status !== DONE) return this.#refused(status);
     this.#named(tag);
     tag.above = node;
@@ -254,10 +255,9 @@ export class Crossing {
   // Gives what is told ahead, outermost first: what comes next is within that.
   #gives() {
     while (this.#given < this.#many) {
-      const it = this.#ahead[this.#given], { node } = it, c = this.#command(), depth = this.#depth + 1;
-      c[0] = NEXT, c[4] = node.slot, c[5] = node.top, c[6] = node.lo, c[7] = node.hi, c[8] = 0, c[10] = this.#values.next();
+      const it = this.#ahead[this.#given], { node: { slot, top, lo, hi } } = it, depth = this.#depth + 1;
       let status;
-      try { status = this.#glue.give(depth); } catch (error) { throw this.#failed(error); }
+      try { status = this.#glue.give(depth, slot, top, lo, hi, this.#values.next()); } catch (error) { throw this.#failed(error); }
       if (status !== DONE) throw new Error(`cellarcliff: ${REFUSED[status] ?? `an item was refused (${status})`}`);
       if (this.#a.length === 0) this.#look();
       const is_own = this.#a[OWN_AT] !== 0;
@@ -286,7 +286,7 @@ export class Crossing {
     this.begins();
     const word = this.#values.next(), depth = this.#depth + 1;
     let status;
-    try { status = this.#glue.next(depth, NEXT, node.slot, node.top, node.lo, node.hi, word); } catch (error) { throw this.#failed(error); }
+    try { status = this.#glue.next(depth, node.slot, node.top, node.lo, node.hi, word); } catch (error) { throw this.#failed(error); }
     const made = ++this.#made;
     if (this.#a.length === 0) this.#look();
     const a = this.#a;
@@ -321,15 +321,23 @@ export class Crossing {
   }
 
   complete(node) { return this.#ends(COMPLETE, node); }
-  error(node, error) { return this.#ends(ERROR, node, THE_NEXT, error); }
-  fail(node, error) { return this.#ends(FAIL, node, THE_NEXT, error); }
+  error(node, error) { return this.#fails(ERROR, node, error); }
+  fail(node, error) { return this.#fails(FAIL, node, error); }
   decline(node) { return this.#ends(DECLINE, node); }
-  #ends(what, node, word = 0, value = undefined) {
+  #ends(what, node) {
     this.line = null;
     this.begins();
-    const status = this.#make(what, node, 0, word);
+    const status = this.#makeOf(what, node);
     this.#isCalm = false;
-    this.#does(value);
+    this.#does(undefined);
+    return status;
+  }
+  #fails(what, node, error) {
+    this.line = null;
+    this.begins();
+    const status = this.#make(what, node.slot, node.top, node.lo, node.hi, 0, this.#values.next());
+    this.#isCalm = false;
+    this.#does(error);
     return status;
   }
   /** Disposes of a root, and has called nobody yet: whether `goOn` is to do that. */
@@ -337,7 +345,7 @@ export class Crossing {
     this.line = null;
     if (this.#given !== this.#many) this.#gives();
     if (this.#lingering !== null) this.#goesOn();
-    this.#make(DISPOSE, node, 0, 0, true);
+    this.#makeOf(DISPOSE, node, true);
     this.#isCalm = false;
     this.#things.leaves(node);
     const a = this.#a;
@@ -376,7 +384,7 @@ export class Crossing {
     this.#isCalm = false;
     const word = this.#things.take(new Errand(act));
     let status = -1;
-    try { status = this.#make(PUT, node, word, THE_NEXT); } finally { if (status !== DONE) this.#things.free(word); }
+    try { status = this.#make(PUT, node.slot, node.top, node.lo, node.hi, word, this.#values.next()); } finally { if (status !== DONE) this.#things.free(word); }
     this.#does(undefined);
     return status;
   }
@@ -566,7 +574,7 @@ export class Crossing {
   totals() {
     if (this.#given !== this.#many) this.#gives();
     this.#wasm.cellar_totals(this.#places.engine, this.#places.words);
-    if (this.#c.length === 0) this.#look();
+    if (this.#a.length === 0) this.#look();
     const words = new BigUint64Array(this.#wasm.memory.buffer, Number(this.#places.words), 8);
     const [nodes, held, waiting, leases, accepted, taken, events, effects] = Array.from(words, Number);
     return { nodes, held, waiting, leases, accepted, taken, events, effects };

@@ -5,6 +5,8 @@
 // never taken keeps so many numbers over a call, and a platform compares with its limit as a function of that size is entered. Where there is
 // less, that is a RangeError and the engine was not called. `entered` is 1 within a call of the engine: a trap has then left it in the midst of
 // one. The engine's own calls were seen to need less than 2,000 bytes; the rest of a step is for what the package does around them.
+import { NEXT } from './codes.mjs';
+
 const STEP = 24576;
 
 const unsigned = (n) => (n < 128 ? [n] : [n % 128 | 128, ...unsigned(Math.floor(n / 128))]);
@@ -26,11 +28,13 @@ const load32 = (at) => [0x28, 2, ...unsigned(at)], store32 = (at) => [0x36, 2, .
 const code = (locals, ...body) => sized([...list(locals), ...body.flat(), ...END]);
 
 // Numbers of functions and of globals, and of a command's fields.
-const STEP_CALL = 0, NEXT_CALL = 1, PASS_CALL = 2, ROOM = 3, GIVES = 4, GOES_ON = 5, ALL = 13;
+const STEP_CALL = 0, NEXT_CALL = 1, PASS_CALL = 2, ROOM = 3, GIVES = 4, GOES_ON = 5, ALL = 15;
 const BASE = 0, ENGINE = 1, STACK = 2, COMMAND = 3, STEPPED = 4, ENTERED = 5;
 /** Bytes behind the base at which the engine's handle, a command, what a step answers, the stack of calls, a count and words stand. */
 export const LAYOUT = { engine: 0, command: 64, stepped: 128, stack: 320, count: 352, words: 448, room: 64 };
 const field = (at, value) => [...global(BASE), ...value, ...store32(LAYOUT.command + at)];
+/** The fields that a command reads: the four parts of its node's key, its user and its value, from this local on. The others are not looked at. */
+const fields = (from, many = 6) => [16, 20, 24, 28, 32, 40].slice(0, many).map((at, i) => field(at, get(from + i))).flat();
 const entering = (...it) => [...constant(1), ...setGlobal(ENTERED), ...it.flat(), ...constant(0), ...setGlobal(ENTERED)];
 const handed = [...global(BASE), ...load32(LAYOUT.stepped + 128)];
 // What was handed out is begun.
@@ -58,30 +62,32 @@ function large(frame, next) {
   return bytes;
 }
 
-const nodeFields = [16, 20, 24, 28].map((at, i) => field(at, get(i + 2))).flat(); // the four parts of its key
-const EXPORTS = { room: ROOM, make: 6, open: 7, step: 8, next: 9, goOn: GOES_ON, go: 10, pass: 11, give: 12, all: ALL };
+const EXPORTS = { room: ROOM, make: 6, open: 7, step: 8, end: 9, next: 10, give: 11, goOn: GOES_ON, go: 12, pass: 13, share: 14, all: ALL };
 const header = () => [0, 0x61, 0x73, 0x6d, 1, 0, 0, 0,
   ...section(1, [type([I64, I64, I64, I64], [I32]), type([I64, I64, I64], [I32]), type([I64, I64, I64, I32], [I32]), type([I32], []), type([I32], [I32]),
-    type([I32, I32, I32, I32, I32, I32, I32], [I32]), type([I32, I32, I32], [])]),
+    type(Array(8).fill(I32), [I32]), type(Array(6).fill(I32), [I32]), type([I32, I32, I32], [])]),
   ...section(2, [
     ...['cellar_step', 'cellar_next', 'cellar_pass'].map((it, i) => [...text('e'), ...text(it), FUNCTION, i]), [...text('e'), ...text('memory'), MEMORY, 0, 0],
     ...['base', 'engine', 'stack', 'command', 'stepped'].map((it) => [...text('e'), ...text(it), GLOBAL, it === 'base' ? I32 : I64, 0])]),
-  ...section(3, [[3], [4], [4], [4], [4], [4], [5], [4], [6], [4], [3]]),
+  ...section(3, [[3], [4], [4], [5], [5], [5], [6], [6], [6], [4], [7], [7], [3]]),
   ...section(6, [[I32, 1, ...constant(0), ...END]]),
   ...section(7, [...Object.entries(EXPORTS).map(([name, n]) => [...text(name), FUNCTION, n]), [...text('entered'), GLOBAL, ENTERED]]),
 ];
-// Each has first how many calls are under way, this one included.
+const command = [...field(0, get(1)), ...fields(2)], item = [field(0, constant(NEXT)), fields(1, 4), field(40, get(5))];
+// Each has first how many calls are under way, this one included, but for the last.
 const small = () => [
     code([], isSoDeep, entering(global(ENGINE), global(STACK), global(COMMAND), global(STEPPED), call(STEP_CALL))),
     code([], isSoDeep, entering(global(ENGINE), global(STACK), global(STEPPED), call(NEXT_CALL), DROP), begun, handed), // what comes next, where the depth has been looked at
-    code([], roomy(0), get(0), call(GIVES)), // a command that was written
-    code([], roomy(1), get(0), call(GIVES)), // one that wants more
-    code([], roomy(2), get(0), call(GIVES), begun), // one with all that it leads to
-    // an item: what and flags, the four parts of the node's key, the value's word
-    code([], roomy(2), field(0, get(1)), nodeFields, field(32, constant(0)), field(40, get(6)), get(0), call(GIVES), begun),
+    // A command: what, flags and the like, and its fields; one that wants more, and one with all that it leads to.
+    code([], roomy(0), command, get(0), call(GIVES)),
+    code([], roomy(1), command, get(0), call(GIVES)),
+    code([], roomy(2), command, get(0), call(GIVES), begun),
+    code([], roomy(2), field(0, get(1)), fields(2, 4), get(0), call(GIVES), begun), // the same of one of a node alone
+    code([], roomy(2), ...item, get(0), call(GIVES), begun), // an item: the node's key, the value's word
+    code([], roomy(0), ...item, get(0), call(GIVES), begun), // an item that is being told
     code([], roomy(2), get(0), call(GOES_ON)),
     code([], roomy(0), isSoDeep, entering(global(ENGINE), global(STACK), get(1), LONG, get(2), call(PASS_CALL), DROP)), // of the call so deep, and whether now
-    code([], roomy(0), get(0), call(GIVES), begun), // an item that is being told
+    code([], field(4, get(0)), field(8, get(1)), field(12, get(2))), // of a share: how many stand below it, and its hub
 ];
 /** The bytes of the module. */
 export function glue() {
