@@ -4,6 +4,7 @@
 import { acts, hasWord, isOfSeveral } from './asked.mjs';
 import { LEFT } from './left.mjs';
 import { EARLIER, FOLLOWED, ORDERS, isSharing, orderOf } from './orders.mjs';
+import { ENDS } from './mix.mjs';
 import { TELLS, compared, isHeard } from './running.mjs';
 import { PUT_OFF, isPutOff } from './within.mjs';
 
@@ -15,14 +16,17 @@ export const MENDED = {
   'RxJS keeps a source for nobody': [({ whole }) => hasWord(whole, (name) => isSharing(name) || name === 'connect'), { mends: ['reset', 'connect'] }],
   'RxJS resets a share by a notifier of the one before': [({ whole }) => hasWord(whole, isSharing), { mends: ['stale'] }],
   'RxJS goes on with one that has lost a race': [({ whole }) => hasWord(whole, (name) => /^race/.test(name)), { mends: ['race'] }],
+  'RxJS asks about items behind the one that it ended with': [({ whole }) => hasWord(whole, (name) => /^(every|find|findIndex|takeWhile)$/.test(name)), { mends: ['asked'] }],
   'RxJS leaves a resource open': [({ whole }) => hasWord(whole, (name) => name === 'using'), { mends: ['using'] }],
 };
 /** What the package does in its own manner. */
 export const MANNERS = {
   'what comes next comes behind the release of what was before': [({ whole }) => hasWord(whole, (name) => isOfSeveral(name) || FOLLOWED.test(name)), { releases: true, mends: ['using'] }],
+  'what ends by itself has left its source as its end is told': [(it) => acts(it, ...TELLS) && hasWord(it.whole, (name) => name in ENDS), { quits: true }],
   'what a callback tells from within comes as soon as it has returned': [(it) => acts(it, ...TELLS), { puts_off: TELLS }],
   'what is told from within to one who is being told comes behind that': [(it) => acts(it, ...TELLS), { leaves: 'subjects' }],
   'what is told from within to an observer that is being told comes behind that': [(it) => acts(it, ...TELLS), { leaves: 'roots' }],
+  'what is told from within to an observer, or an operator that ends by itself, that is being told comes behind that': [(it) => acts(it, ...TELLS) && hasWord(it.whole, (name) => name in ENDS), { leaves: 'ends' }],
   'what is told from within to an observer, or by an observable within another, that is being told comes behind that': [(it) => acts(it, ...TELLS), { leaves: 'inners' }],
   'what is told from within to an observer, or a function, that is being told comes behind that': [(it) => acts(it, ...TELLS), { leaves: 'places' }],
   'what comes of a subscription from within comes as soon as the callback has returned': [(it) => acts(it, 'subscribe'), { puts_off: ['subscribe'] }],
@@ -39,7 +43,7 @@ function mannerOf(names) {
   const all = names.map((name) => (MANNERS[name] ?? MENDED[name])[1]);
   return {
     puts_off: all.flatMap((one) => one.puts_off ?? []), hushes: all.some((one) => one.hushes), leaves: all.find((one) => one.leaves)?.leaves ?? '',
-    releases: all.some((one) => one.releases), mends: new Set(all.flatMap((one) => one.mends ?? [])),
+    releases: all.some((one) => one.releases), quits: all.some((one) => one.quits), mends: new Set(all.flatMap((one) => one.mends ?? [])),
   };
 }
 /** Whether both come to the same where all that callbacks do is done behind the step. */

@@ -74,13 +74,13 @@ const ITEMS = {
   finalize: ['l', ({ say, finalized }, l) => finalized(() => say('finalized', l))],
 };
 
-const ENDS = {
+export const ENDS = {
   count: ['f', ({ rx }, f) => rx.count(f((it) => it > 1))],
   defaultIfEmpty: ['n', ({ rx }, n) => rx.defaultIfEmpty(n)],
   elementAt: ['nb', ({ rx }, n, b) => (b ? rx.elementAt(n, 9) : rx.elementAt(n))],
-  every: ['f', ({ rx }, f) => rx.every(f((it) => it < 4))],
-  find: ['f', ({ rx }, f) => rx.find(f((it) => it > 2))],
-  findIndex: ['f', ({ rx }, f) => rx.findIndex(f((it) => it > 2))],
+  every: ['f', (at, f) => askingOnce(at, at.rx.every, f((it) => it < 4), false)],
+  find: ['f', (at, f) => askingOnce(at, at.rx.find, f((it) => it > 2), true)],
+  findIndex: ['f', (at, f) => askingOnce(at, at.rx.findIndex, f((it) => it > 2), true)],
   first: ['fb', ({ rx }, f, b) => (b ? rx.first(f((it) => it > 1), 9) : rx.first(f((it) => it > 1)))],
   isEmpty: ['', ({ rx }) => rx.isEmpty()],
   last: ['fb', ({ rx }, f, b) => (b ? rx.last(f((it) => it > 1), 9) : rx.last(f((it) => it > 1)))],
@@ -90,7 +90,7 @@ const ENDS = {
   single: ['f', ({ rx }, f) => rx.single(f((it) => it > 3))],
   take: ['n', ({ rx }, n) => rx.take(n + 1)],
   takeLast: ['n', ({ rx }, n) => rx.takeLast(n)],
-  takeWhile: ['fb', ({ rx }, f, b) => rx.takeWhile(f((it) => it < 4), b)],
+  takeWhile: ['fb', (at, f, b) => askingOnce(at, (ask) => at.rx.takeWhile(ask, b), f((it) => it < 4), false)],
   throwIfEmpty: ['', ({ rx }) => rx.throwIfEmpty(() => new Error('empty'))],
   toArray: ['', ({ rx }) => rx.toArray()],
 };
@@ -215,6 +215,17 @@ const behind = (rx, mends, notifier) => (mends.has('behind') ? new rx.Observable
   is_in = false;
   told?.();
 }) : notifier);
+
+/** With the mend `asked` the answer that ends it is the last for which it asks. */
+const askingOnce = ({ rx, mends }, asking, ask, last) => (mends.has('asked') ? (source) => rx.defer(() => {
+  let is_over = false;
+  const asked = (it) => {
+    const answer = ask(it);
+    is_over ||= answer === last;
+    return answer;
+  };
+  return source.pipe(rx.filter(() => !is_over), asking(asked));
+}) : asking(ask));
 
 /** With the mend `race` one that has lost is left, even where it is just being subscribed to. */
 const racing = (rx, all) => new rx.Observable((to) => {

@@ -1,7 +1,7 @@
 // What comes of a pipeline over a library: all that happens, in its order, each line with the step in which it happened.
 import { HOTS, WHERE } from './drawing.mjs';
 import { finalizing, inLeaves, releasing, waiting } from './leaves.mjs';
-import { OPERATORS, SOURCES } from './mix.mjs';
+import { ENDS, OPERATORS, SOURCES } from './mix.mjs';
 
 const MOST = 400; // lines; beyond it a pipeline runs on, and is left out
 
@@ -21,10 +21,11 @@ export const TELLS = ['next', 'complete', 'error'];
 
 export class Run {
   /** In another manner than a library's own: callbacks do these kinds of acts as soon as the step has returned (`puts_off`); what a release throws
-   *  is lost (`hushes`); who is being told something hears the rest behind that, by each subscription to a subject, each observer, each inner
-   *  observable besides, or each function (`leaves`); what is followed by something is released first (`releases`); the program mends what RxJS does wrong (`mends`: mix.mjs). */
-  constructor(rx, ops, it, { puts_off = [], hushes = false, leaves = '', releases = false, mends = new Set() } = {}) {
-    Object.assign(this, { rx, ops, it, puts_off, hushes, leaves, releases, mends });
+   *  is lost (`hushes`); who is being told something hears the rest behind that, by each subscription to a subject, each observer, each operator that ends by
+   *  itself, each inner observable besides, or each function (`leaves`); what is followed by something is released first (`releases`),
+   *  or what ends by itself (`quits`); the program mends what RxJS does wrong (`mends`: mix.mjs). */
+  constructor(rx, ops, it, { puts_off = [], hushes = false, leaves = '', releases = false, quits = false, mends = new Set() } = {}) {
+    Object.assign(this, { rx, ops, it, puts_off, hushes, leaves, releases, quits, mends });
     Object.assign(this, { put_off: [], place: null, turned: 0, lines: [], step: 0, resources: 0, functions: 0, open: new Map(), twice: 0, is_on: false, subscriptions: {}, connectables: [], frame: 0 });
     this.counted = Object.fromEntries(WHERE.map((where) => [where, 0]));
     this.reached = new Set();
@@ -111,6 +112,10 @@ export class Run {
   }
   operator([name, ...words]) {
     if (this.releases && isFollowed(name)) return this.rx.pipe(releasing(this.rx), this.made(OPERATORS[name], words));
+    if (name in ENDS) {
+      const made = this.made(OPERATORS[name], words), waits = this.leaves === 'ends' ? [waiting(this.rx)] : [], quits = this.quits ? [releasing(this.rx)] : [];
+      return this.rx.pipe(...waits, made, ...quits);
+    }
     if (this.leaves !== 'places' || !hasPlace(name)) return this.made(OPERATORS[name], words);
     const outer = this.place, place = this.place = [];
     try { return this.rx.pipe(waiting(this.rx, place), this.made(OPERATORS[name], words)); } finally { this.place = outer; }
@@ -195,7 +200,7 @@ export class Run {
     if (what === 'subscribe') {
       // known before it tells anything, so that it can be left from within
       const { next, error, complete } = this.observer(who), whole = this.subscriptions[who] = this.rx.Subscriber.create(next, error, complete);
-      (['roots', 'inners', 'places'].includes(this.leaves) ? waiting(this.rx)(this.pipe) : this.pipe).subscribe(whole);
+      (['roots', 'ends', 'inners', 'places'].includes(this.leaves) ? waiting(this.rx)(this.pipe) : this.pipe).subscribe(whole);
     } else if (what === 'unsubscribe') this.subscriptions[who]?.unsubscribe();
     else if (what === 'connect') this.connections = this.connectables.map((it) => it.connect());
     else if (what === 'time') {
