@@ -11,12 +11,10 @@ extern int malloc_trim(size_t) __attribute__((weak));
 
 enum { WORDS = 64, NO_STACK = 255, BOTH = 1 << 12 };
 
-/* What stands above a depth: the last item is told, and its call is to be ended; others are let into the lane of what the call further out does;
- * the item of what is opened comes with it. */
-#define IS_TOLD (INT64_C(1) << 62)
+/* What stands above a depth: others are let into the lane of what the call further out does; the item of what is opened comes with it. */
 #define LETS_IN (INT64_C(1) << 61)
 #define WITH_ITEM (INT64_C(1) << 60)
-#define ABOVE (IS_TOLD | LETS_IN | WITH_ITEM)
+#define ABOVE (LETS_IN | WITH_ITEM)
 
 /* What Java reads begins with `step`; Native.java has the places. */
 struct desk {
@@ -24,7 +22,6 @@ struct desk {
   struct cellar_stepped step;
   struct cellar_totals totals;
   uint64_t words[WORDS];
-  struct cellar_stack last; /* whose step was handed its own item last, and its ticket */
 };
 _Static_assert(offsetof(struct desk, totals) - offsetof(struct desk, step) == 192, "Native.java");
 _Static_assert(offsetof(struct desk, words) - offsetof(struct desk, step) == 256, "Native.java");
@@ -62,13 +59,7 @@ static jlong told(const struct desk *desk, uint8_t status) {
 #define STATIC JNIEnv *env, jclass class
 #define UNUSED (void)env, (void)class
 
-/* The stack of a call. If its depth says so, the last item is told, and its call, which left this to whatever call comes next, ends before
- * that: nothing can stand behind the item, since no other call came. If something did all the same, it would not be lost. */
-static struct cellar_stack stack_of(struct desk *desk, jlong by, jlong depth, jlong begun) {
-  if (depth & IS_TOLD) {
-    cellar_next(&desk->engine, &desk->last, &desk->step);
-    if (desk->step.handed) cellar_stop(&desk->engine, &desk->last);
-  }
+static struct cellar_stack stack_of(jlong by, jlong depth, jlong begun) {
   return (struct cellar_stack){.by = (uint64_t)by, .depth = (uint64_t)(depth & ~ABOVE), .begun = (uint64_t)begun};
 }
 
@@ -106,7 +97,7 @@ static jlong JNICALL step_(STATIC, jlong at, jlong by, jlong depth, jlong begun,
                                    .level = (uint32_t)(head >> 32), .hub = (uint64_t)hub, .node = {(uint64_t)slot, (uint64_t)number},
                                    .user = (uint64_t)user, .value = depth & WITH_ITEM ? 0 : (uint64_t)value};
   if (!has_stack(needed(command.what))) return NO_STACK;
-  struct cellar_stack stack = stack_of(desk, by, depth, begun);
+  struct cellar_stack stack = stack_of(by, depth, begun);
   uint8_t status = cellar_step(&desk->engine, &stack, &command, &desk->step);
   if (depth & LETS_IN && !status) cellar_pass(&desk->engine, &stack, stack.depth - 1, 0);
   jlong both = depth & WITH_ITEM && !status && !desk->step.handed && !desk->step.closed ? BOTH : 0;
@@ -116,28 +107,47 @@ static jlong JNICALL step_(STATIC, jlong at, jlong by, jlong depth, jlong begun,
     desk->words[1] = next.node.number;
     status = cellar_step(&desk->engine, &stack, &next, &desk->step);
   }
-  if (desk->step.own) desk->last = (struct cellar_stack){.by = stack.by, .depth = stack.depth, .begun = desk->step.ticket};
   return told(desk, status) | both;
 }
 
 static jlong JNICALL next_(STATIC, jlong at, jlong by, jlong depth, jlong begun) {
   UNUSED;
   struct desk *desk = (struct desk *)at;
-  struct cellar_stack stack = stack_of(desk, by, depth, begun);
+  struct cellar_stack stack = stack_of(by, depth, begun);
   return told(desk, cellar_next(&desk->engine, &stack, &desk->step));
+}
+
+/* An item that is being told already is begun with all who hear it, in one lane. */
+static jlong JNICALL give_(STATIC, jlong at, jlong by, jlong depth, jlong begun, jlong slot, jlong number) {
+  UNUSED;
+  struct desk *desk = (struct desk *)at;
+  struct cellar_command command = {.what = CELLAR_NEXT, .node = {(uint64_t)slot, (uint64_t)number}};
+  if (!has_stack(needed(CELLAR_DISPOSE))) return -1;
+  struct cellar_stack stack = stack_of(by, depth, begun);
+  if (cellar_step(&desk->engine, &stack, &command, &desk->step)) {
+    if (desk->step.handed) cellar_stop(&desk->engine, &stack);
+    return 0;
+  }
+  if (!desk->step.handed) return 0;
+  stack.begun = desk->step.ticket;
+  for (uint64_t left = desk->step.copies; left > 1; left--) {
+    cellar_next(&desk->engine, &stack, &desk->step);
+    stack.begun = desk->step.ticket;
+  }
+  return (jlong)stack.begun;
 }
 
 static void JNICALL pass_(STATIC, jlong at, jlong by, jlong depth, jlong begun, jboolean now) {
   UNUSED;
   struct desk *desk = (struct desk *)at;
-  struct cellar_stack stack = stack_of(desk, by, depth, begun);
+  struct cellar_stack stack = stack_of(by, depth, begun);
   cellar_pass(&desk->engine, &stack, stack.depth - 1, now);
 }
 
 static void JNICALL stop_(STATIC, jlong at, jlong by, jlong depth, jlong begun) {
   UNUSED;
   struct desk *desk = (struct desk *)at;
-  struct cellar_stack stack = stack_of(desk, by, depth, begun);
+  struct cellar_stack stack = stack_of(by, depth, begun);
   cellar_stop(&desk->engine, &stack);
 }
 
@@ -178,7 +188,7 @@ JNIEXPORT jint JNICALL JNI_OnLoad(JavaVM *machine, void *reserved) {
       CALL(fits, "", "Z"),          CALL(open, "I", "J"),        CALL(buffer, "J", "Ljava/nio/ByteBuffer;"),
       CALL(step, "JJJJJJJJJJ", "J"), CALL(next, "JJJJ", "J"),    CALL(pass, "JJJJZ", "V"),
       CALL(stop, "JJJJ", "V"),      CALL(closings, "JJ", "J"), CALL(totals, "J", "V"),
-      CALL(dump, "J", "[B"),        CALL(drop, "J", "V"),
+      CALL(dump, "J", "[B"),        CALL(drop, "J", "V"),        CALL(give, "JJJJJJ", "J"),
   };
   JNIEnv *env;
   (void)reserved;

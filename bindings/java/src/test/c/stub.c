@@ -51,10 +51,10 @@ static void expect(const char *what, long long expected, long long found) {
 
 typedef jlong(JNICALL *step_call)(JNIEnv *, jclass, jlong, jlong, jlong, jlong, jlong, jlong, jlong, jlong, jlong, jlong);
 typedef jlong(JNICALL *next_call)(JNIEnv *, jclass, jlong, jlong, jlong, jlong);
+typedef jlong(JNICALL *give_call)(JNIEnv *, jclass, jlong, jlong, jlong, jlong, jlong, jlong);
 
 /* As Native.java has them: of what a step answers, and places of 8 bytes in its memory. */
-enum { HANDED = 1 << 8, OWN = 1 << 9, MORE = 1 << 11, KIND = 16, NODE = 0, TICKET = 18, USER = 20, TOTALS = 24 };
-#define IS_TOLD (INT64_C(1) << 62)
+enum { HANDED = 1 << 8, KIND = 16, NODE = 0, TICKET = 18, USER = 20, TOTALS = 24 };
 enum { OPEN = 0, USING = 1, NEXT = 3, DISPOSE = 8, SOURCE = 1 };
 
 int main(int count, char **words) {
@@ -82,12 +82,11 @@ int main(int count, char **words) {
     begun = (jlong)told[TICKET];
     expect("behind it", 0, next(&env, NULL, desk, 1, 1, begun) & HANDED);
   }
-  for (int i = 0; i < 2; i++) { /* the second call ends the first, which did not end itself */
-    jlong it = step(&env, NULL, desk, 1, i ? IS_TOLD | 1 : 1, begun, NEXT, 0, leaf[0], leaf[1], 0, 300);
-    expect("the command's own item, alone", HANDED | OWN, it & (HANDED | OWN | MORE));
-    begun = (jlong)told[TICKET];
+  for (int i = 0; i < 2; i++) {
+    begun = ((give_call)called("give"))(&env, NULL, desk, 1, 1, begun, leaf[0], leaf[1]);
+    expect("an item that is told already", 1, begun > 0);
+    expect("behind it", 0, next(&env, NULL, desk, 1, 1, begun) & HANDED);
   }
-  expect("behind both", 0, next(&env, NULL, desk, 1, 1, begun) & HANDED);
   int kinds = 0;
   for (jlong it = step(&env, NULL, desk, 1, 1, begun, DISPOSE, 0, root[0], root[1], 0, 0); it & HANDED; it = next(&env, NULL, desk, 1, 1, begun)) {
     kinds = 10 * kinds + (int)(it >> KIND);

@@ -13,8 +13,10 @@ final class Connection extends Tree {
     /** Of one that was made by hand: it hears of its closing. */
     volatile boolean isOpen;
 
+    @Override Share shares() { return share; }
+
     Connection(Share share, Engine engine) {
-        super(engine);
+        super(engine, share.reach);
         this.share = share;
     }
 }

@@ -3,8 +3,6 @@ package dev.cellarcliff.rx;
 import static dev.cellarcliff.rx.Native.*;
 
 import io.reactivex.rxjava3.core.Observer;
-import java.lang.invoke.MethodHandles;
-import java.lang.invoke.VarHandle;
 import java.lang.ref.PhantomReference;
 import java.lang.ref.Reference;
 import java.lang.ref.WeakReference;
@@ -46,22 +44,9 @@ final class Engine {
     /** How many threads have calls under way; whether one of them left something; what may be told yet, though nobody holds it. */
     private int active;
     private boolean isLeft;
-    /**
-     * The ticket of the item that was handed out last, if it stood alone and no call came since: then nothing stands behind it, and the
-     * call that tells it ends without the lock, by the ticket below zero. The next call of this engine, whose ever, says so first.
-     */
-    private long lastItem;
-    private long lastDepth;
-    private static final VarHandle LAST_ITEM;
-
-    static {
-        try {
-            LAST_ITEM = MethodHandles.lookup().findVarHandle(Engine.class, "lastItem", long.class);
-        } catch (ReflectiveOperationException why) {
-            throw new ExceptionInInitializerError(why);
-        }
-    }
-
+    /** Reaches in which calls were stopped; items whose call could not be served. */
+    private Reach stopped;
+    private Ahead unserved;
     private Tree pinned;
     private final Spares spares;
     private static final int MOST_GUARDS = 1024;
@@ -130,53 +115,29 @@ final class Engine {
 
     // a step and what it came to: all under the lock -------------------------------------------------------------------------
 
-    private void step(Stack stack, long head, long hub, long slot, long number, long user, long word, Object value) {
-        step(stack, head, hub, slot, number, user, word, value, 0);
+    private void step(Stack stack, Reach reach, long head, long hub, long slot, long number, long user, long word, Object value) {
+        step(stack, reach, head, hub, slot, number, user, word, value, 0);
     }
 
-    private void step(Stack stack, long head, long hub, long slot, long number, long user, long word, Object value, long above) {
-        long told, depth = ++stack.depth, last = takeLast();
+    private void step(Stack stack, Reach within, long head, long hub, long slot, long number, long user, long word, Object value, long above) {
+        Reach reach = within.now();
+        enter(stack, reach);
+        long told, depth = ++stack.depth;
         try {
-            told = Native.step(desk, stack.by, depth | above | (last < 0 ? IS_TOLD : 0), stack.begun, head, hub, slot, number, user, word);
+            told = Native.step(desk, stack.by, depth | above, stack.begun, head, hub, slot, number, user, word);
             if (told == NO_STACK) { throw new StackOverflowError(); }
         } catch (Throwable why) {
             stack.depth--;
-            if (last < 0) { lastItem = last; }
+            reach.leave();
             throw why;
         }
-        if (last < 0) { ended(); }
         if (depth == 1) { active++; }
         stack.status = (int) told & 255;
         stack.isBoth = (told & BOTH) != 0;
         int copies = (told & (MORE | OWN)) == 0 ? 0 : (int) memory.getLong(COPIES);
         if ((told & MORE) != 0) { readClosings(stack, stack.isBoth ? NEXT : (int) head & 255, value); }
         if (copies > 0 && ((told & OWN) == 0 || toGoOn != null)) { values.put(value, copies); }
-        boolean isAlone = (told & (HANDED | OWN | MORE)) == (HANDED | OWN) && toGoOn == null && !isLeft;
-        hand(stack, toGoOn == null ? told : goOn(stack, told), value);
-        stack.isAlone = isAlone && stack.kind == E_NEXT;
-        if (stack.isAlone) {
-            lastItem = stack.begun;
-            lastDepth = depth;
-        }
-    }
-
-    /** The item that was handed out last is the last no more. Below zero its call has ended, and is to be ended; then nobody else writes here. */
-    private long takeLast() {
-        long last = lastItem;
-        if (last > 0) { return (long) LAST_ITEM.getAndSet(this, 0L); }
-        lastItem = 0;
-        return last;
-    }
-
-    private void ended() {
-        if (lastDepth == 1) { active--; }
-    }
-
-    /** The depth of a call, and whether the one before is to be ended. */
-    private long depth(Stack stack) {
-        if (takeLast() >= 0) { return stack.depth; }
-        ended();
-        return stack.depth | IS_TOLD;
+        hand(stack, reach, toGoOn == null ? told : goOn(stack, told), value);
     }
 
     /** Has those that are to go on go on behind what stands in their lanes. What was handed out and not begun comes again. */
@@ -193,14 +154,13 @@ final class Engine {
         return told;
     }
 
-    private void next(Stack stack) {
-        hand(stack, Native.next(desk, stack.by, depth(stack), stack.begun), null);
-    }
+    private void next(Stack stack, Reach reach) { hand(stack, reach, Native.next(desk, stack.by, stack.depth, stack.begun), null); }
 
     /** A thread has no call under way any more. */
     private void rest() {
         if (--active > 0 || isLeft) { return; }
         while (pinned != null) { unpin(pinned); }
+        while (stopped != null) { stopped = stopped.rest(); }
     }
 
     private void readClosings(Stack stack, int what, Object value) {
@@ -220,8 +180,9 @@ final class Engine {
         }
     }
 
-    private void hand(Stack stack, long told, Object value) {
+    private void hand(Stack stack, Reach reach, long told, Object value) {
         while (isDoneHere(stack, told, value)) { told = Native.next(desk, stack.by, stack.depth, stack.begun); }
+        if (!stack.isHanded) { reach.now().leave(); }
     }
 
     /** Reads what is handed out; whether it is done with that, since there is nothing to tell anybody. */
@@ -274,6 +235,175 @@ final class Engine {
 
     private static void hold(Tree tree, Tag tag, int change) {
         if (tag.isEager) { tree.eager += change; } else { tree.late += change; }
+    }
+
+    // items told ahead: all under the lock but `tellAhead` ---------------------------------------------------------------------
+
+    /** Tells an item that is only heard, where nothing else is under way: whether it was told, or nobody hears it any more. */
+    boolean tellAhead(Leaf leaf, Tree tree, Object item) {
+        Stack stack = stacks.get();
+        Ahead it = stack.room();
+        Share share = tree.shares();
+        if (share != null && !isHeard(share)) { return false; }
+        Reach reach = leaf.reach;
+        if (it.reach != reach) { it.reach = reach; }
+        it.slot = leaf.slot;
+        it.number = leaf.number;
+        it.depth = stack.depth + 1;
+        it.isGiven = false;
+        if (it.share != share) { it.share = share; }
+        if (!reach.begin(it) && !(reach.mayBegin() && beginFirst(leaf, it))) { return false; }
+        stack.depth++;
+        stack.ahead = it;
+        boolean isTold = true, isOver = false;
+        Throwable raised = null;
+        try {
+            if (!leaf.isOpen()) {
+                // it was closed as this began
+            } else if (share == null) {
+                ((Root) tree).next(item, leaf.chain);
+            } else {
+                isTold = share.hear(this, it, item);
+            }
+        } catch (Throwable why) {
+            raised = why;
+        }
+        stack.ahead = it.outer;
+        try {
+            isOver = it.reach.end(it);
+        } catch (StackOverflowError why) {
+            // by the lock then
+        }
+        if (isOver) { stack.depth--; } else { raised = endGiven(stack, it, tree, raised); }
+        if (share != null) { it.share = null; }
+        Reference.reachabilityFence(tree);
+        if (raised != null) { throw Errors.thrown(raised); }
+        return isTold;
+    }
+
+    private synchronized boolean beginFirst(Leaf leaf, Ahead it) {
+        it.reach = leaf.reach = leaf.reach.now();
+        return it.reach.beginFirst(it);
+    }
+
+    /** Before a command in a reach: what is told ahead there is given, and whatever this stack tells ahead. */
+    private void enter(Stack stack, Reach reach) {
+        while (unserved != null) { stopUnserved(); }
+        if (stack.ahead != null && !stack.ahead.isGiven) { give(stack.ahead); }
+        Ahead it = reach.enter();
+        if (it == null) { return; }
+        try {
+            give(it);
+        } catch (Throwable why) {
+            reach.putBack(it);
+            throw why;
+        }
+    }
+
+    /** Gives an item that is being told, and first those around it. */
+    private void give(Ahead it) {
+        Ahead at = it;
+        while (at.outer != null && !at.outer.isGiven) { at = at.outer; }
+        for (; at != it; at = at.inner) { giveOne(at); }
+        giveOne(it);
+    }
+
+    /** Where memory is refused for it, it is left out all the same: then what comes within it is told within it. */
+    private void giveOne(Ahead it) {
+        if (it.share != null && !makeHeard(it.share)) { return; }
+        long ticket = Native.give(desk, it.stack.by, it.depth, it.stack.begun, it.slot, it.number);
+        if (ticket < 0) { throw new StackOverflowError(); }
+        if (ticket == 0) { return; }
+        it.stack.begun = ticket;
+        it.isGiven = true;
+        if (it.share != null) { it.heard = it.share.heard; }
+        it.reach.now().enter();
+        if (it.depth == 1) { active++; }
+    }
+
+    /** Makes one reach of a subscription's and a share's. */
+    private Reach join(Stack stack, Reach one, Reach other) {
+        if (one == other) { return other; }
+        enter(stack, one);
+        try {
+            enter(stack, other);
+        } catch (Throwable why) {
+            one.leave();
+            throw why;
+        }
+        one.join(other);
+        other.leave();
+        other.leave();
+        return other;
+    }
+
+    /** Ends an item that was given meanwhile, and does what came behind it. What was raised. */
+    private Throwable endGiven(Stack stack, Ahead it, Tree tree, Throwable raised) {
+        Reach reach;
+        synchronized (this) {
+            reach = it.reach.now();
+            if (!it.isGiven) {
+                it.reach.endLast(it);
+                stack.depth--;
+                return raised;
+            }
+            it.heard = null;
+            try {
+                next(stack, reach);
+            } catch (Throwable why) {
+                leaveUnserved(stack, it);
+                return Errors.raise(raised, why);
+            }
+        }
+        try {
+            serve(stack, reach, tree, null);
+        } catch (Throwable why) {
+            return Errors.raise(raised, why);
+        }
+        return raised;
+    }
+
+    /** There is no stack to ask what came behind it, so whoever makes the next command leaves that to others. */
+    private void leaveUnserved(Stack stack, Ahead it) {
+        it.nextUnserved = unserved;
+        unserved = it;
+        stack.depth--;
+        stack.forget(it);
+    }
+
+    private void stopUnserved() {
+        Ahead it = unserved;
+        Native.stop(desk, it.stack.by, it.depth, it.stack.begun);
+        unserved = it.nextUnserved;
+        stopped(it.reach.now(), it.depth);
+    }
+
+    private void stopped(Reach reach, long depth) {
+        isLeft = true;
+        stopped = reach.stop(stopped);
+        if (depth == 1) { rest(); }
+    }
+
+    /** Whether the items of a share's source may be told ahead. */
+    private boolean isHeard(Share share) {
+        if (share.heard != null) { return true; }
+        synchronized (this) { return makeHeard(share); }
+    }
+
+    private static boolean makeHeard(Share share) {
+        try {
+            return share.makeHeard();
+        } catch (OutOfMemoryError why) {
+            return false;
+        }
+    }
+
+    /** Those who hear an item of a share that has begun: null where somebody had come for whom it may not be told ahead. */
+    synchronized Root[] heard(Share share, Ahead it) {
+        if (it.isGiven) { return it.heard; }
+        if (makeHeard(share)) { return share.heard; }
+        it.reach.endLast(it);
+        return null;
     }
 
     // words: all under the lock ------------------------------------------------------------------------------------------
@@ -406,15 +536,14 @@ final class Engine {
      * Does what the last step of this stack came to and whatever comes behind it, and ends the call. Raises what that raised. What the
      * command closed is acted on first; but where the user disposes, behind what is released around that, as RxJava does.
      */
-    private void serve(Stack stack, Tree of, Tree.Releases around) {
+    private void serve(Stack stack, Reach reach, Tree of, Tree.Releases around) {
         long depth = stack.depth;
         Thing closing = stack.closing;
         Throwable raised = null;
         stack.closing = null;
         try {
             for (boolean isFirst = true;; isFirst = false) {
-                boolean isHanded = stack.isHanded, isAlone = isFirst && stack.isAlone;
-                long ticket = stack.begun;
+                boolean isHanded = stack.isHanded;
                 int kind = stack.kind;
                 long from = stack.from;
                 Tree tree = stack.tree;
@@ -435,13 +564,12 @@ final class Engine {
                     raised = from == stack.by || Errors.isFatal(why) ? Errors.raise(raised, why) : Errors.hear(raised, why);
                 }
                 stack.depth = depth;
-                if (isAlone && LAST_ITEM.compareAndSet(this, ticket, -ticket)) { break; }
-                synchronized (this) { next(stack); }
+                synchronized (this) { next(stack, reach); }
                 Reference.reachabilityFence(tree);  // what else its lane has finds it
             }
             if (around != null) { raised = act(closing, around.releaseEager(raised)); }
         } catch (Throwable why) {
-            stop(stack, depth, of);
+            stop(stack, reach, depth, of);
             throw why;
         }
         stack.depth = depth - 1;
@@ -449,13 +577,12 @@ final class Engine {
         if (raised != null) { throw Errors.thrown(raised); }
     }
 
-    private void stop(Stack stack, long depth, Tree of) {
+    private void stop(Stack stack, Reach reach, long depth, Tree of) {
         stack.depth = depth;
         synchronized (this) {
             if (of != null) { pin(of); }
-            isLeft = true;
-            Native.stop(desk, stack.by, depth(stack), stack.begun);
-            if (depth == 1) { rest(); }
+            Native.stop(desk, stack.by, depth, stack.begun);
+            stopped(reach.now(), depth);
         }
         stack.depth = depth - 1;
     }
@@ -477,7 +604,7 @@ final class Engine {
         if (tree == null) { return; }
         switch (kind) {
             case E_NEXT:
-                ((Root) tree).next(value);
+                ((Root) tree).hear(value);
                 break;
             case E_PROJECT:
                 ((Merging) thing).project(value);
@@ -502,20 +629,26 @@ final class Engine {
 
     /** From within the telling of an end: does what stands behind it now. */
     void settle(Stack stack, Root root) {
+        Reach reach = root.ref.reach;
         synchronized (this) {
             stack.depth++;
+            reach.now().enter();  // the end is under way there
             try {
-                Native.pass(desk, stack.by, depth(stack), stack.begun, true);
-                next(stack);
+                Native.pass(desk, stack.by, stack.depth, stack.begun, true);
+                next(stack, reach);
             } catch (Throwable why) {
                 stack.depth--;
+                reach.now().leave();
                 throw why;
             }
         }
-        serve(stack, root, root.releases.around(true));
+        serve(stack, reach, root, root.releases.around(true));
     }
 
     // commands -------------------------------------------------------------------------------------------------------------------
+
+    /** Whether items that are only heard may be left out: where the history is kept, all stand in it. */
+    boolean leavesOut() { return history == null; }
 
     private static Throwable refused(int status) {
         return status == NO_MEMORY ? new OutOfMemoryError("cellarcliff: the engine was refused memory")
@@ -535,10 +668,10 @@ final class Engine {
         synchronized (this) {
             meet(tree);
             values.makeRoom(1);
-            step(stack, NEXT, 0, leaf.slot, leaf.number, 0, values.next(), item);
+            step(stack, tree.ref.reach, NEXT, 0, leaf.slot, leaf.number, 0, values.next(), item);
             status = stack.status;
         }
-        serve(stack, tree, null);
+        serve(stack, tree.ref.reach, tree, null);
         return isDone(status);
     }
 
@@ -562,10 +695,10 @@ final class Engine {
         synchronized (this) {
             meet(tree);
             values.makeRoom(1);
-            step(stack, what, 0, node.slot, node.number, 0, value == null ? 0 : values.next(), value);
+            step(stack, tree.ref.reach, what, 0, node.slot, node.number, 0, value == null ? 0 : values.next(), value);
             status = stack.status;
         }
-        serve(stack, tree, null);
+        serve(stack, tree.ref.reach, tree, null);
         return status;
     }
 
@@ -576,16 +709,16 @@ final class Engine {
             if (!root.isOpen || root.isOver) { return; }
             meet(root);
             isAround = root.eager > 0;
-            step(stack, DISPOSE, 0, root.ref.slot, root.ref.number, 0, 0, null);
+            step(stack, root.ref.reach, DISPOSE, 0, root.ref.slot, root.ref.number, 0, 0, null);
             isAround &= stack.status == DONE;
         }
         if (!isAround) {
-            serve(stack, root, null);
+            serve(stack, root.ref.reach, root, null);
             return;
         }
         Throwable raised = null;
         try {
-            serve(stack, root, root.releases.around(false));
+            serve(stack, root.ref.reach, root, root.releases.around(false));
         } catch (Throwable why) {
             raised = why;
         }
@@ -611,7 +744,7 @@ final class Engine {
             if (at.isRoot() && hasWord) { tree.ref.owed++; }
             boolean isDone = false;
             try {
-                step(stack, head | at.place << 8, 0, at.slot(), at.number(), user, value, null, at.letsOthersIn());
+                step(stack, tree.ref.reach, head | at.place << 8, 0, at.slot(), at.number(), user, value, null, at.letsOthersIn());
                 isDone = stack.status == DONE;
             } finally {
                 if (!isDone) {
@@ -628,7 +761,7 @@ final class Engine {
                 if (tag != null) { hold(tree, tag, 1); }
             }
         }
-        serve(stack, tree, null);
+        serve(stack, tree.ref.reach, tree, null);
         leave(at);
         return isDone(status);
     }
@@ -643,12 +776,12 @@ final class Engine {
         boolean isTold;
         synchronized (this) {
             values.makeRoom(1);
-            step(stack, OPEN | LEAF << 16 | at.place << 8, 0, at.slot(), at.number(), 0, values.next(), item, WITH_ITEM | at.letsOthersIn());
+            step(stack, at.tree.ref.reach, OPEN | LEAF << 16 | at.place << 8, 0, at.slot(), at.number(), 0, values.next(), item, WITH_ITEM | at.letsOthersIn());
             status = stack.status;
             isTold = stack.isBoth;
             if (isTold || status == DONE) { leaf.has(memory.getLong(isTold ? MORE_CLOSINGS : NODE), memory.getLong((isTold ? MORE_CLOSINGS : NODE) + 8)); }
         }
-        serve(stack, at.tree, null);
+        serve(stack, at.tree.ref.reach, at.tree, null);
         return isDone(status) && (isTold || next(leaf, at.tree, item));
     }
 
@@ -708,6 +841,7 @@ final class Engine {
             meet(share);
             makeRoom(tree, 1);
             guard(tree);
+            Reach reach = join(stack, tree.ref.reach.now(), share.reach.now());
             long user = word(tree, node), flags = WISHES, slot = at.slot(), number = at.number();
             Share.Subscriber beside = at.isRoot() ? share.beside() : null;
             if (at.isRoot()) { tree.ref.owed++; }
@@ -718,7 +852,7 @@ final class Engine {
             }
             boolean isDone = false;
             try {
-                step(stack, OPEN | at.place << 8 | share.kind << 16 | flags << 24 | (long) share.level << 32, share.hub, slot, number, user, share.word, null, at.letsOthersIn());
+                step(stack, reach, OPEN | at.place << 8 | share.kind << 16 | flags << 24 | (long) share.level << 32, share.hub, slot, number, user, share.word, null, at.letsOthersIn());
                 isDone = stack.status == DONE;
             } finally {
                 if (!isDone) {
@@ -741,7 +875,7 @@ final class Engine {
                 failed = moveOn(share);
             }
         }
-        serve(stack, tree, null);
+        serve(stack, tree.ref.reach, tree, null);
         if (failed != null) { throw Errors.thrown(failed); }
         if (status == NO_HUB || status == HUB_ORDER) { return status; }
         leave(at);
@@ -752,7 +886,9 @@ final class Engine {
     /** A share for which there is no hub here goes to another engine: what that raises, which may not stand before what the step handed out. */
     private Throwable moveOn(Share share) {
         try {
-            share.engine = spares.next(share);
+            Engine next = spares.next(share);
+            share.reach = new Reach();
+            share.engine = next;
             return null;
         } catch (Throwable why) {
             return why;
@@ -776,7 +912,7 @@ final class Engine {
             long user = word(made, made.node);
             boolean isDone = false;
             try {
-                step(stack, CONNECT | (long) WISHES << 24 | (long) share.level << 32, share.hub, 0, 0, user, share.word, null);
+                step(stack, share.reach, CONNECT | (long) WISHES << 24 | (long) share.level << 32, share.hub, 0, 0, user, share.word, null);
                 isDone = stack.status == DONE;
             } finally {
                 if (!isDone) { takeBack(user); }
@@ -797,7 +933,7 @@ final class Engine {
                 failed = moveOn(share);
             }
         }
-        serve(stack, made, null);
+        serve(stack, made.ref.reach, made, null);
         if (failed != null) { throw Errors.thrown(failed); }
         if (status == NO_HUB) { return null; }
         isDone(status);
@@ -815,9 +951,9 @@ final class Engine {
                 return;
             }
             meet(connection);
-            step(stack, DISCONNECT, share.hub, 0, 0, 0, share.word, null);
+            step(stack, share.reach, DISCONNECT, share.hub, 0, 0, 0, share.word, null);
         }
-        serve(stack, connection, null);
+        serve(stack, connection.ref.reach, connection, null);
     }
 
     /** Forgets how a connection that was made by hand ended. */
@@ -850,12 +986,12 @@ final class Engine {
         synchronized (this) {
             if (ref.owed == 0 || ref.closedBy < 0 || ref.isGuarded) { return; }
             if (ref.closedBy == DISPOSE) {
-                step(stack, DISPOSE, 0, ref.slot, ref.number, 0, 0, null);
+                step(stack, ref.reach, DISPOSE, 0, ref.slot, ref.number, 0, 0, null);
             } else {
-                step(stack, DISCONNECT, ref.hub, 0, 0, 0, ref.word, null);
+                step(stack, ref.reach, DISCONNECT, ref.hub, 0, 0, 0, ref.word, null);
             }
         }
-        serve(stack, null, null);
+        serve(stack, ref.reach, null, null);
     }
 
     /** The history with its names; null where it is not whole. */

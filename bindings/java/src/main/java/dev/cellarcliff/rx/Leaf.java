@@ -21,7 +21,11 @@ final class Leaf extends Node implements Observer<Object>, FlowableSubscriber<Ob
     }
 
     private final Engine engine;
-    private final Through.Chain chain;
+    final Through.Chain chain;
+    /** Of what it tells nothing comes but that it is heard. */
+    private final boolean isHeard;
+    /** In which it tells; a hint. */
+    Reach reach;
     /** Until it is closed. */
     private volatile Tree tree;
     private volatile boolean hasEnded;
@@ -33,6 +37,8 @@ final class Leaf extends Node implements Observer<Object>, FlowableSubscriber<Ob
         this.engine = at.tree.engine;
         this.tree = at.tree;
         this.chain = at.chain;
+        this.isHeard = at.isHeard && engine.leavesOut();
+        this.reach = at.tree.ref.reach;
         this.asker = at.asker();
     }
 
@@ -59,7 +65,8 @@ final class Leaf extends Node implements Observer<Object>, FlowableSubscriber<Ob
 
     @Override public void onNext(Object item) {
         Tree into = tree;
-        if (into != null && !engine.next(this, into, carried(item))) { tree = null; }
+        if (into == null || isHeard && engine.tellAhead(this, into, item)) { return; }
+        if (!engine.next(this, into, carried(item))) { tree = null; }
     }
 
     private Object carried(Object item) { return chain == null ? item : new Through.Carried(item, chain); }

@@ -9,7 +9,7 @@ class Merging extends Node {
     final boolean isSwitch;
     /** What items of the inner sources go through. */
     final Through.Chain chain;
-    final boolean isShared;
+    final boolean isShared, isHeard;
     private final Function<Object, ?> mapper;
 
     Merging(Place at, Function<Object, ?> mapper, boolean isSwitch) {
@@ -18,6 +18,7 @@ class Merging extends Node {
         this.isSwitch = isSwitch;
         this.chain = at.chain;
         this.isShared = at.isShared;
+        this.isHeard = at.isHeard;
     }
 
     /** Whether items that come as an inner source is opened are projected at once. */

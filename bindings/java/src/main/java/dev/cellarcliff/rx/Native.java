@@ -14,8 +14,8 @@ final class Native {
     static final int DONE = 0, NO_MEMORY = 4, FULL = 16, GONE = 17, NOTHING_OWED = 20, NO_HUB = 22, HUB_ORDER = 23, TOO_MANY = 29,
         NO_STACK = 255;
     static final long UNKNOWN_HUB = -1;
-    /** Above a depth: the last item is told, which its call did not say yet; others are let in as what is projected is answered; an item comes with what is opened. */
-    static final long IS_TOLD = 1L << 62, LETS_IN = 1L << 61, WITH_ITEM = 1L << 60;
+    /** Above a depth: others are let in as what is projected is answered; an item comes with what is opened. */
+    static final long LETS_IN = 1L << 61, WITH_ITEM = 1L << 60;
 
     // bits of what a step answers, and places in the buffer
     static final int HANDED = 1 << 8, OWN = 1 << 9, CARRIES = 1 << 10, MORE = 1 << 11, BOTH = 1 << 12, KIND = 16;
@@ -45,6 +45,8 @@ final class Native {
     private static native ByteBuffer buffer(long desk);
     static native long step(long desk, long by, long depth, long begun, long head, long hub, long slot, long number, long user, long value);
     static native long next(long desk, long by, long depth, long begun);
+    /** Gives an item that is being told: the ticket of the last that is told of it; 0 where it was refused or nobody hears it, less where there is no stack. */
+    static native long give(long desk, long by, long depth, long begun, long slot, long number);
     static native void pass(long desk, long by, long depth, long begun, boolean now);
     static native void stop(long desk, long by, long depth, long begun);
     static native long closings(long desk, long from);

@@ -11,31 +11,34 @@ final class Place {
     /** What items go through on their way up from here, if anything; and whether they go to the subscribers of a share. */
     final Through.Chain chain;
     final boolean isShared;
+    /** Of an item from here nothing comes but that it is heard. */
+    final boolean isHeard;
     private final Node above;
 
-    private Place(Tree tree, int place, Node above, Merging over, Through.Chain chain, boolean isShared) {
+    private Place(Tree tree, int place, Node above, Merging over, Through.Chain chain, boolean isShared, boolean isHeard) {
         this.tree = tree;
         this.place = place;
         this.above = above;
         this.over = over;
         this.chain = chain;
         this.isShared = isShared;
+        this.isHeard = isHeard;
     }
 
-    static Place root(Root root) { return new Place(root, Native.ROOT, null, null, null, false); }
+    static Place root(Root root) { return new Place(root, Native.ROOT, null, null, null, false, true); }
 
-    static Place inner(Merging over) { return new Place(over.tree, Native.INNER, over, over, over.chain, over.isShared); }
+    static Place inner(Merging over) { return new Place(over.tree, Native.INNER, over, over, over.chain, over.isShared, over.isHeard); }
 
-    static Place source(Connection connection) { return new Place(connection, Native.SOURCE, connection.node, null, null, true); }
+    static Place source(Connection connection) { return new Place(connection, Native.SOURCE, connection.node, null, null, true, true); }
 
     /** Below a node that hands items on as they are. */
-    Place below(Node node) { return new Place(tree, Native.SOURCE, node, null, chain, isShared); }
+    Place below(Node node) { return new Place(tree, Native.SOURCE, node, null, chain, isShared, isHeard); }
 
-    Place notifier(Node node) { return new Place(tree, Native.NOTIFIER, node, null, null, false); }
+    Place notifier(Node node) { return new Place(tree, Native.NOTIFIER, node, null, null, false, false); }
 
-    Place projected(Merging merging) { return new Place(tree, Native.SOURCE, merging, null, null, false); }
+    Place projected(Merging merging) { return new Place(tree, Native.SOURCE, merging, null, null, false, false); }
 
-    Place through(Function<Object, ?> function) { return new Place(tree, place, above, over, new Through.Chain(function, chain), false); }
+    Place through(Function<Object, ?> function) { return new Place(tree, place, above, over, new Through.Chain(function, chain), false, isHeard); }
 
     /** What asks for items here, a few at a time, if something does. */
     Bounded asker() { return place == Native.SOURCE && above instanceof Bounded && ((Bounded) above).asks() ? (Bounded) above : null; }

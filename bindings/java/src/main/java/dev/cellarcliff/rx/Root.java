@@ -12,20 +12,28 @@ final class Root extends Tree implements Disposable {
     private volatile boolean isStopped;
 
     Root(Engine engine, Observer<Object> down) {
-        super(engine);
+        super(engine, new Reach());
         this.down = down;
     }
 
-    void next(Object carried) {
+    /** An item of the engine's. */
+    void hear(Object it) {
+        if (it instanceof Through.Carried) { next(((Through.Carried) it).item, ((Through.Carried) it).chain); } else { next(it, null); }
+    }
+
+    /** An item before its functions. */
+    void next(Object it, Through.Chain chain) {
         if (isStopped) { return; }
-        Object item;
-        try {
-            item = Through.through(carried);
-        } catch (Throwable why) {
-            fail(why);
-            return;
+        Object item = it;
+        if (chain != null) {
+            try {
+                item = Through.through(it, chain);
+            } catch (Throwable why) {
+                fail(why);
+                return;
+            }
+            if (item == null || isStopped) { return; }
         }
-        if (item == null || isStopped) { return; }
         try {
             down.onNext(item);
         } catch (Throwable why) {

@@ -11,6 +11,8 @@ final class Share {
     final int kind, level;
     final long word = WORDS.incrementAndGet();
     volatile Engine engine = Engine.current();
+    /** Of it and all who subscribe to it. */
+    Reach reach = new Reach();
     long hub = Native.UNKNOWN_HUB;
     /** How many further engines it has tried. */
     int tried;
@@ -23,6 +25,9 @@ final class Share {
     Throwable error;
     /** Those whose lane others may have come first. */
     private Subscriber first, last;
+    /** How many have nothing but this share, and how many are others; and the first in their order, if there are no others and they were asked for. */
+    private int alone, others;
+    volatile Root[] heard;
 
     Share(ObservableSource<Object> source, int kind) {
         this.source = source;
@@ -56,6 +61,34 @@ final class Share {
     /** A subscription of which the lane can be another's too: one that has nothing but this share. */
     Subscriber beside() { return first != null && first.isAlone ? first : null; }
 
+    /** Looks for those who hear an item of its source, where nothing else comes of that: whether that is so. In other lanes their order is the engine's. */
+    boolean makeHeard() {
+        if (heard != null) { return true; }
+        if (others > 0) { return false; }
+        Root[] all = new Root[alone];
+        int many = 0;
+        for (Subscriber each = last; each != null; each = each.before) { all[many++] = (Root) each.tree; }
+        heard = all;
+        return true;
+    }
+
+    /** Tells those an item that is told ahead: whether that may be. */
+    boolean hear(Engine by, Ahead it, Object item) {
+        Root[] all = heard;
+        if (all == null) { all = by.heard(this, it); }
+        if (all == null) { return false; }
+        Throwable raised = null;
+        for (Root each : all) {
+            try {
+                each.next(item, null);
+            } catch (Throwable why) {
+                raised = Errors.raise(raised, why);
+            }
+        }
+        if (raised != null) { throw Errors.thrown(raised); }
+        return true;
+    }
+
     /** A node that subscribes to it. */
     static final class Subscriber extends Node {
         final Share share;
@@ -70,6 +103,8 @@ final class Share {
         }
 
         void join() {
+            share.heard = null;
+            if (isAlone) { share.alone++; } else { share.others++; }
             if (isAlone) {
                 after = share.first;
                 if (after == null) { share.last = this; } else { after.before = this; }
@@ -82,6 +117,8 @@ final class Share {
         }
 
         @Override void close(Engine engine, int what, Object value) {
+            share.heard = null;
+            if (isAlone) { share.alone--; } else { share.others--; }
             if (before == null) { share.first = after; } else { before.after = after; }
             if (after == null) { share.last = before; } else { after.before = before; }
             before = after = null;

@@ -7,14 +7,17 @@ final class Stack {
     private static final AtomicLong WORDS = new AtomicLong();
 
     final long by = WORDS.incrementAndGet();
-    long depth, begun;
+    long depth;
+    /** The ticket of what it began last. Under the lock of its engine. */
+    long begun;
+    /** The innermost item that it tells ahead; and which it would be if there were none. */
+    Ahead ahead;
+    private Ahead first;
 
     int status, kind;
     boolean isHanded;
     /** The item that came with what was opened is told as well. */
     boolean isBoth;
-    /** What is handed out is the command's own item, and nothing stands behind it. */
-    boolean isAlone;
     /** Of what is handed out: whose tree, what of it, its value, and which thread's command it comes of. */
     Tree tree;
     Thing thing;
@@ -22,4 +25,21 @@ final class Stack {
     long from;
     /** What the command closed, the first of a chain. */
     Thing closing;
+
+    /** For the next item that is told ahead. */
+    Ahead room() {
+        Ahead it = ahead == null ? first : ahead.inner;
+        return it == null ? makeRoom() : it;
+    }
+
+    private Ahead makeRoom() {
+        Ahead it = new Ahead(this, ahead);
+        if (ahead == null) { first = it; } else { ahead.inner = it; }
+        return it;
+    }
+
+    /** It is not used again. */
+    void forget(Ahead it) {
+        if (it.outer == null) { first = null; } else { it.outer.inner = null; }
+    }
 }

@@ -54,8 +54,8 @@ final class Through extends Operator.Plain {
 
     /** An item before its functions. */
     static final class Carried {
-        private final Object item;
-        private final Chain chain;
+        final Object item;
+        final Chain chain;
 
         Carried(Object item, Chain chain) {
             this.item = item;
@@ -65,10 +65,12 @@ final class Through extends Operator.Plain {
 
     /** An item behind its functions; null if it does not go on. */
     static Object through(Object item) throws Throwable {
-        if (!(item instanceof Carried)) { return item; }
-        Carried carried = (Carried) item;
-        Object it = carried.item;
-        for (Chain chain = carried.chain; chain != null && it != null; chain = chain.rest) { it = chain.first.apply(it); }
+        return item instanceof Carried ? through(((Carried) item).item, ((Carried) item).chain) : item;
+    }
+
+    static Object through(Object item, Chain chain) throws Throwable {
+        Object it = item;
+        for (Chain at = chain; at != null && it != null; at = at.rest) { it = at.first.apply(it); }
         return it;
     }
 }

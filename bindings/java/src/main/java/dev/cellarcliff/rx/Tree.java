@@ -23,14 +23,18 @@ abstract class Tree {
     boolean isPinned;
     Tree pinnedBefore, pinnedAfter;
 
-    Tree(Engine engine) {
+    Tree(Engine engine, Reach reach) {
         this.engine = engine;
-        this.ref = new Ref(this);
+        this.ref = new Ref(this, reach);
     }
+
+    /** The share whose connection this is, if it is one. */
+    Share shares() { return null; }
 
     /** What the engine keeps of a tree. */
     static final class Ref extends WeakReference<Tree> implements Collected {
         private final Engine engine;
+        final Reach reach;
         int index = -1;
         /** How many of its words are still to be told for the last time. */
         int owed;
@@ -41,9 +45,10 @@ abstract class Tree {
         boolean isGuarded;
         private Tree found;
 
-        Ref(Tree tree) {
+        Ref(Tree tree, Reach reach) {
             super(tree, QUEUE);
             this.engine = tree.engine;
+            this.reach = reach;
         }
 
         Tree tree() { return found == null ? get() : found; }
