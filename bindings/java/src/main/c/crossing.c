@@ -9,12 +9,15 @@
 
 extern int malloc_trim(size_t) __attribute__((weak));
 
-enum { WORDS = 64, NO_STACK = 255, BOTH = 1 << 12 };
+enum { WORDS = 64, NOTED = 16, NO_STACK = 255, BOTH = 1 << 12 };
 
-/* What stands above a depth: others are let into the lane of what the call further out does; the item of what is opened comes with it. */
+/* What stands above a depth: others are let into the lane of what the call further out does; the item of what is opened comes with it; a leaf
+ * below it, whose word stands in the place of the hub; the call further out goes on behind it. */
 #define LETS_IN (INT64_C(1) << 61)
 #define WITH_ITEM (INT64_C(1) << 60)
-#define ABOVE (LETS_IN | WITH_ITEM)
+#define WITH_LEAF (INT64_C(1) << 59)
+#define GOES_ON (INT64_C(1) << 58)
+#define ABOVE (LETS_IN | WITH_ITEM | WITH_LEAF | GOES_ON)
 
 /* What Java reads begins with `step`; Native.java has the places. */
 struct desk {
@@ -22,6 +25,8 @@ struct desk {
   struct cellar_stepped step;
   struct cellar_totals totals;
   uint64_t words[WORDS];
+  /* What was handed out that tells nobody, and is done: the words, and in four bits each the kinds; then the ticket of the last. */
+  uint64_t noted[NOTED], kinds, begun;
 };
 _Static_assert(offsetof(struct desk, totals) - offsetof(struct desk, step) == 192, "Native.java");
 _Static_assert(offsetof(struct desk, words) - offsetof(struct desk, step) == 256, "Native.java");
@@ -29,7 +34,7 @@ _Static_assert(offsetof(struct desk, words) - offsetof(struct desk, step) == 256
 /* Whether the stack has so many kilobytes left. A command is not made where the lines behind it might find no stack: what it came to would
  * be lost. The JVM keeps up to 96 at the end for itself. */
 static int has_stack(size_t kilobytes) {
-  static _Thread_local char *end;
+  static _Thread_local char *end __attribute__((tls_model("initial-exec")));
   char here;
   if (!end) {
     pthread_attr_t attributes;
@@ -48,11 +53,32 @@ static size_t needed(uint8_t what) {
   return what <= CELLAR_NEXT || what == CELLAR_CONNECT ? 160 : what <= CELLAR_ERROR ? 144 : 128;
 }
 
+/* What tells nobody is noted: that a root is gone, that nothing more is projected; and a release of the tree that is disposed of, if the caller names
+ * one, which the caller does later. What comes behind is handed out. */
+static jlong note(struct desk *desk, struct cellar_stack *stack, uint64_t around) {
+  jlong many = 0;
+  struct cellar_stepped next, *step = &desk->step;
+  for (desk->kinds = 0; step->handed && many < NOTED; many++) {
+    uint32_t kind = step->effect.kind;
+    if (kind != CELLAR_E_GONE && kind != CELLAR_E_MERGED && (kind != CELLAR_E_RELEASE || (step->effect.user >> 32) + 1 != around)) break;
+    desk->noted[many] = step->effect.user;
+    desk->kinds |= (uint64_t)kind << 4 * many;
+    stack->begun = desk->begun = step->ticket;
+    cellar_next(&desk->engine, stack, &next);
+    if (!(step->handed = next.handed)) continue;
+    step->own = next.own;
+    step->ticket = next.ticket;
+    step->effect = next.effect;
+  }
+  return many;
+}
+
 /* The status, and above it whether there is an effect, whether it is the command's own item, which then needs not be kept, whether it carries
- * a value, whether there are closings or values to keep, and its kind. */
-static jlong told(const struct desk *desk, uint8_t status) {
+ * a value, whether there are closings or values to keep, its kind, and how much was noted before it. */
+static jlong told(struct desk *desk, struct cellar_stack *stack, uint8_t status, jlong around) {
   const struct cellar_stepped *step = &desk->step;
-  return status | (jlong)step->handed << 8 | (jlong)step->own << 9 | (jlong)(step->effect.carries != 0) << 10 |
+  jlong noted = step->handed ? note(desk, stack, (uint64_t)around) : 0;
+  return status | noted << 24 | (jlong)step->handed << 8 | (jlong)step->own << 9 | (jlong)(step->effect.carries != 0) << 10 |
          (jlong)(step->closed != 0 || step->copies > step->own) << 11 | (jlong)step->effect.kind << 16;
 }
 
@@ -90,31 +116,46 @@ static jobject JNICALL buffer_(STATIC, jlong desk) {
   return (*env)->NewDirectByteBuffer(env, &((struct desk *)desk)->step, sizeof(struct desk) - offsetof(struct desk, step));
 }
 
-static jlong JNICALL step_(STATIC, jlong at, jlong by, jlong depth, jlong begun, jlong head, jlong hub, jlong slot, jlong number, jlong user, jlong value) {
+static jlong JNICALL step_(STATIC, jlong at, jlong by, jlong depth, jlong begun, jlong head, jlong hub, jlong slot, jlong number, jlong user, jlong value,
+                          jlong around) {
   UNUSED;
   struct desk *desk = (struct desk *)at;
   struct cellar_command command = {.what = (uint8_t)head, .place = (uint8_t)(head >> 8), .kind = (uint8_t)(head >> 16), .flags = (uint8_t)(head >> 24),
-                                   .level = (uint32_t)(head >> 32), .hub = (uint64_t)hub, .node = {(uint64_t)slot, (uint64_t)number},
+                                   .level = (uint32_t)(head >> 32), .hub = depth & WITH_LEAF ? 0 : (uint64_t)hub, .node = {(uint64_t)slot, (uint64_t)number},
                                    .user = (uint64_t)user, .value = depth & WITH_ITEM ? 0 : (uint64_t)value};
   if (!has_stack(needed(command.what))) return NO_STACK;
   struct cellar_stack stack = stack_of(by, depth, begun);
   uint8_t status = cellar_step(&desk->engine, &stack, &command, &desk->step);
   if (depth & LETS_IN && !status) cellar_pass(&desk->engine, &stack, stack.depth - 1, 0);
-  jlong both = depth & WITH_ITEM && !status && !desk->step.handed && !desk->step.closed ? BOTH : 0;
-  if (both) {
-    struct cellar_command next = {.what = CELLAR_NEXT, .node = desk->step.node, .value = (uint64_t)value};
-    desk->words[0] = next.node.slot;
-    desk->words[1] = next.node.number;
-    status = cellar_step(&desk->engine, &stack, &next, &desk->step);
+  jlong both = depth & (WITH_ITEM | WITH_LEAF | GOES_ON) && !status && !desk->step.handed && !desk->step.closed ? BOTH : 0;
+  if (!both) return told(desk, &stack, status, around);
+  if (depth & GOES_ON) {
+    stack.depth--;
+    cellar_next(&desk->engine, &stack, &desk->step);
+    return told(desk, &stack, status, around) | both;
   }
-  return told(desk, status) | both;
+  struct cellar_node node = desk->step.node, other = desk->step.other;
+  struct cellar_command next = {.what = CELLAR_NEXT, .node = node, .value = (uint64_t)value};
+  if (depth & WITH_LEAF)
+    next = (struct cellar_command){.what = CELLAR_OPEN, .place = CELLAR_SOURCE, .kind = CELLAR_LEAF, .flags = CELLAR_WISHES, .node = node, .user = (uint64_t)hub};
+  desk->words[0] = node.slot;
+  desk->words[1] = node.number;
+  desk->words[2] = other.number;
+  status = cellar_step(&desk->engine, &stack, &next, &desk->step);
+  if (status && depth & WITH_LEAF) { /* the caller opens it by itself, and hears why not */
+    desk->step.node = node;
+    desk->step.other = other;
+    both = status = 0;
+  }
+  return told(desk, &stack, status, around) | both;
 }
 
-static jlong JNICALL next_(STATIC, jlong at, jlong by, jlong depth, jlong begun) {
+static jlong JNICALL next_(STATIC, jlong at, jlong by, jlong depth, jlong begun, jlong around) {
   UNUSED;
   struct desk *desk = (struct desk *)at;
   struct cellar_stack stack = stack_of(by, depth, begun);
-  return told(desk, cellar_next(&desk->engine, &stack, &desk->step));
+  uint8_t status = cellar_next(&desk->engine, &stack, &desk->step);
+  return told(desk, &stack, status, around);
 }
 
 /* An item that is being told already is begun with all who hear it, in one lane. */
@@ -186,7 +227,7 @@ static jbyteArray JNICALL dump_(STATIC, jlong at) {
 JNIEXPORT jint JNICALL JNI_OnLoad(JavaVM *machine, void *reserved) {
   static const JNINativeMethod calls[] = {
       CALL(fits, "", "Z"),          CALL(open, "I", "J"),        CALL(buffer, "J", "Ljava/nio/ByteBuffer;"),
-      CALL(step, "JJJJJJJJJJ", "J"), CALL(next, "JJJJ", "J"),    CALL(pass, "JJJJZ", "V"),
+      CALL(step, "JJJJJJJJJJJ", "J"), CALL(next, "JJJJJ", "J"),    CALL(pass, "JJJJZ", "V"),
       CALL(stop, "JJJJ", "V"),      CALL(closings, "JJ", "J"), CALL(totals, "J", "V"),
       CALL(dump, "J", "[B"),        CALL(drop, "J", "V"),        CALL(give, "JJJJJJ", "J"),
   };

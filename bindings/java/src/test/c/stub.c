@@ -49,12 +49,12 @@ static void expect(const char *what, long long expected, long long found) {
   exit(1);
 }
 
-typedef jlong(JNICALL *step_call)(JNIEnv *, jclass, jlong, jlong, jlong, jlong, jlong, jlong, jlong, jlong, jlong, jlong);
-typedef jlong(JNICALL *next_call)(JNIEnv *, jclass, jlong, jlong, jlong, jlong);
+typedef jlong(JNICALL *step_call)(JNIEnv *, jclass, jlong, jlong, jlong, jlong, jlong, jlong, jlong, jlong, jlong, jlong, jlong);
+typedef jlong(JNICALL *next_call)(JNIEnv *, jclass, jlong, jlong, jlong, jlong, jlong);
 typedef jlong(JNICALL *give_call)(JNIEnv *, jclass, jlong, jlong, jlong, jlong, jlong, jlong);
 
 /* As Native.java has them: of what a step answers, and places of 8 bytes in its memory. */
-enum { HANDED = 1 << 8, KIND = 16, NODE = 0, TICKET = 18, USER = 20, TOTALS = 24 };
+enum { HANDED = 1 << 8, KIND = 16, NOTED = 24, NODE = 0, TICKET = 18, USER = 20, TOTALS = 24 };
 enum { OPEN = 0, USING = 1, NEXT = 3, DISPOSE = 8, SOURCE = 1 };
 
 int main(int count, char **words) {
@@ -71,28 +71,30 @@ int main(int count, char **words) {
   const uint64_t *told = memory;
   step_call step = (step_call)called("step");
   next_call next = (next_call)called("next");
-  expect("using", 0, step(&env, NULL, desk, 1, 1, 0, USING, 0, 0, 0, 100, 200));
+  expect("using", 0, step(&env, NULL, desk, 1, 1, 0, USING, 0, 0, 0, 100, 200, 0));
   jlong root[] = {(jlong)told[NODE], (jlong)told[NODE + 1]};
-  expect("open", 0, step(&env, NULL, desk, 1, 1, 0, OPEN | SOURCE << 8, 0, root[0], root[1], 0, 0));
+  expect("open", 0, step(&env, NULL, desk, 1, 1, 0, OPEN | SOURCE << 8, 0, root[0], root[1], 0, 0, 0));
   jlong leaf[] = {(jlong)told[NODE], (jlong)told[NODE + 1]}, begun = 0;
   for (int i = 0; i < 2; i++) {
-    jlong it = step(&env, NULL, desk, 1, 1, begun, NEXT, 0, leaf[0], leaf[1], 0, 300);
+    jlong it = step(&env, NULL, desk, 1, 1, begun, NEXT, 0, leaf[0], leaf[1], 0, 300, 0);
     expect("an item is handed out", HANDED, it & HANDED);
     expect("for whom", 100, (long long)told[USER]);
     begun = (jlong)told[TICKET];
-    expect("behind it", 0, next(&env, NULL, desk, 1, 1, begun) & HANDED);
+    expect("behind it", 0, next(&env, NULL, desk, 1, 1, begun, 0) & HANDED);
   }
   for (int i = 0; i < 2; i++) {
     begun = ((give_call)called("give"))(&env, NULL, desk, 1, 1, begun, leaf[0], leaf[1]);
     expect("an item that is told already", 1, begun > 0);
-    expect("behind it", 0, next(&env, NULL, desk, 1, 1, begun) & HANDED);
+    expect("behind it", 0, next(&env, NULL, desk, 1, 1, begun, 0) & HANDED);
   }
-  int kinds = 0;
-  for (jlong it = step(&env, NULL, desk, 1, 1, begun, DISPOSE, 0, root[0], root[1], 0, 0); it & HANDED; it = next(&env, NULL, desk, 1, 1, begun)) {
-    kinds = 10 * kinds + (int)(it >> KIND);
+  int kinds = 0, noted = 0;
+  for (jlong it = step(&env, NULL, desk, 1, 1, begun, DISPOSE, 0, root[0], root[1], 0, 0, 0); it & HANDED; it = next(&env, NULL, desk, 1, 1, begun, 0)) {
+    noted += (int)(it >> NOTED) & 255;
+    kinds = 10 * kinds + (int)((it >> KIND) & 255);
     begun = (jlong)told[TICKET];
   }
-  expect("gone, and then the release", 45, kinds);
+  expect("gone, which is noted", 1, noted);
+  expect("and then the release", 5, kinds);
   ((void(JNICALL *)(JNIEnv *, jclass, jlong))called("totals"))(&env, NULL, desk);
   for (int i = 0; i < 4; i++) expect("what is left", 0, (long long)told[TOTALS + i]);
   ((void(JNICALL *)(JNIEnv *, jclass, jlong))called("drop"))(&env, NULL, desk);

@@ -116,15 +116,15 @@ final class Engine {
     // a step and what it came to: all under the lock -------------------------------------------------------------------------
 
     private void step(Stack stack, Reach reach, long head, long hub, long slot, long number, long user, long word, Object value) {
-        step(stack, reach, head, hub, slot, number, user, word, value, 0);
+        step(stack, reach, head, hub, slot, number, user, word, value, 0, null);
     }
 
-    private void step(Stack stack, Reach within, long head, long hub, long slot, long number, long user, long word, Object value, long above) {
+    private void step(Stack stack, Reach within, long head, long hub, long slot, long number, long user, long word, Object value, long above, Tree.Releases around) {
         Reach reach = within.now();
         enter(stack, reach);
         long told, depth = ++stack.depth;
         try {
-            told = Native.step(desk, stack.by, depth | above, stack.begun, head, hub, slot, number, user, word);
+            told = Native.step(desk, stack.by, depth | above, stack.begun, head, hub, slot, number, user, word, around == null ? 0 : around.noted);
             if (told == NO_STACK) { throw new StackOverflowError(); }
         } catch (Throwable why) {
             stack.depth--;
@@ -137,14 +137,16 @@ final class Engine {
         int copies = (told & (MORE | OWN)) == 0 ? 0 : (int) memory.getLong(COPIES);
         if ((told & MORE) != 0) { readClosings(stack, stack.isBoth ? NEXT : (int) head & 255, value); }
         if (copies > 0 && ((told & OWN) == 0 || toGoOn != null)) { values.put(value, copies); }
-        hand(stack, reach, toGoOn == null ? told : goOn(stack, told), value);
+        note(stack, told, around);
+        hand(stack, reach, toGoOn == null ? told : goOn(stack, told), value, around);
     }
 
     /** Has those that are to go on go on behind what stands in their lanes. What was handed out and not begun comes again. */
     private long goOn(Stack stack, long told) {
         for (Bounded it; (it = toGoOn) != null;) {
-            long again = Native.step(desk, stack.by, stack.depth, stack.begun, PUT | (long) OF_PROJECTIONS << 24, 0, it.slot, it.number, it.word, 0);
+            long again = Native.step(desk, stack.by, stack.depth, stack.begun, PUT | (long) OF_PROJECTIONS << 24, 0, it.slot, it.number, it.word, 0, 0);
             if (again == NO_STACK) { break; }
+            note(stack, again, null);
             told = again;
             if (((int) again & 255) == NO_MEMORY) { break; }
             toGoOn = it.toGoOnNext;
@@ -154,7 +156,39 @@ final class Engine {
         return told;
     }
 
-    private void next(Stack stack, Reach reach) { hand(stack, reach, Native.next(desk, stack.by, stack.depth, stack.begun), null); }
+    private void next(Stack stack, Reach reach, Tree.Releases around) { hand(stack, reach, ask(stack, around), null, around); }
+
+    private long ask(Stack stack, Tree.Releases around) {
+        long told = Native.next(desk, stack.by, stack.depth, stack.begun, around == null ? 0 : around.noted);
+        note(stack, told, around);
+        return told;
+    }
+
+    /** Does what was handed out and tells nobody. */
+    private void note(Stack stack, long told, Tree.Releases around) {
+        int many = (int) (told >>> NOTED) & 255;
+        if (many == 0) { return; }
+        long kinds = memory.getLong(NOTED_KINDS);
+        for (int i = 0; i < many; i++, kinds >>>= 4) { done((int) kinds & 15, memory.getLong(NOTED_WORDS + 8 * i), around); }
+        stack.begun = memory.getLong(BEGUN);
+    }
+
+    private void done(int kind, long user, Tree.Releases around) {
+        Tree tree = trees.get((int) (user >>> 32)).tree();
+        if (kind == E_GONE) {
+            if (tree != null) { ((Root) tree).gone(); }
+            over(tree, user);
+            return;
+        }
+        Thing thing = told(user);
+        if (thing == null) { return; }
+        if (kind == E_MERGED) {
+            ((Merging) thing).over();
+        } else {
+            hold(tree, (Tag) thing, -1);
+            around.add((Tag) thing);
+        }
+    }
 
     /** A thread has no call under way any more. */
     private void rest() {
@@ -169,7 +203,7 @@ final class Engine {
         for (int i = 0, from = 0, at = CLOSINGS, many = ROOM; i < closed; i++) {
             if (i - from == many) {
                 from = i;
-                at = MORE_CLOSINGS;
+                at = WORDS;
                 many = (int) Native.closings(desk, i);
             }
             Thing thing = told(memory.getLong(at + 8 * (i - from)));
@@ -180,8 +214,8 @@ final class Engine {
         }
     }
 
-    private void hand(Stack stack, Reach reach, long told, Object value) {
-        while (isDoneHere(stack, told, value)) { told = Native.next(desk, stack.by, stack.depth, stack.begun); }
+    private void hand(Stack stack, Reach reach, long told, Object value, Tree.Releases around) {
+        for (long it = told; isDoneHere(stack, it, value);) { it = ask(stack, around); }
         if (!stack.isHanded) { reach.now().leave(); }
     }
 
@@ -212,17 +246,13 @@ final class Engine {
                 over(stack.tree, user);
                 break;
             case E_GONE:
-                if (stack.tree != null) { ((Root) stack.tree).gone(); }
-                over(stack.tree, user);
+            case E_MERGED:
+                done(stack.kind, user, null);
                 return true;
             case E_RELEASE:
                 stack.thing = told(user);
                 if (stack.thing != null) { hold(stack.tree, (Tag) stack.thing, -1); }
                 break;
-            case E_MERGED:
-                stack.thing = told(user);
-                if (stack.thing != null) { ((Merging) stack.thing).over(); }
-                return true;
             default:
         }
         return false;
@@ -349,7 +379,7 @@ final class Engine {
             }
             it.heard = null;
             try {
-                next(stack, reach);
+                next(stack, reach, null);
             } catch (Throwable why) {
                 leaveUnserved(stack, it);
                 return Errors.raise(raised, why);
@@ -564,7 +594,7 @@ final class Engine {
                     raised = from == stack.by || Errors.isFatal(why) ? Errors.raise(raised, why) : Errors.hear(raised, why);
                 }
                 stack.depth = depth;
-                synchronized (this) { next(stack, reach); }
+                synchronized (this) { next(stack, reach, around); }
                 Reference.reachabilityFence(tree);  // what else its lane has finds it
             }
             if (around != null) { raised = act(closing, around.releaseEager(raised)); }
@@ -635,14 +665,14 @@ final class Engine {
             reach.now().enter();  // the end is under way there
             try {
                 Native.pass(desk, stack.by, stack.depth, stack.begun, true);
-                next(stack, reach);
+                next(stack, reach, null);
             } catch (Throwable why) {
                 stack.depth--;
                 reach.now().leave();
                 throw why;
             }
         }
-        serve(stack, reach, root, root.releases.around(true));
+        serve(stack, reach, root, root.releases.around(true, 0));
     }
 
     // commands -------------------------------------------------------------------------------------------------------------------
@@ -704,21 +734,21 @@ final class Engine {
 
     void dispose(Root root) {
         Stack stack = stacks.get();
-        boolean isAround;
+        Tree.Releases around;
         synchronized (this) {
             if (!root.isOpen || root.isOver) { return; }
             meet(root);
-            isAround = root.eager > 0;
-            step(stack, root.ref.reach, DISPOSE, 0, root.ref.slot, root.ref.number, 0, 0, null);
-            isAround &= stack.status == DONE;
+            around = root.eager > 0 ? root.releases.around(false, root.ref.index + 1) : null;
+            step(stack, root.ref.reach, DISPOSE, 0, root.ref.slot, root.ref.number, 0, 0, null, 0, around);
+            if (stack.status != DONE) { around = null; }
         }
-        if (!isAround) {
+        if (around == null) {
             serve(stack, root.ref.reach, root, null);
             return;
         }
         Throwable raised = null;
         try {
-            serve(stack, root.ref.reach, root, root.releases.around(false));
+            serve(stack, root.ref.reach, root, around);
         } catch (Throwable why) {
             raised = why;
         }
@@ -744,7 +774,7 @@ final class Engine {
             if (at.isRoot() && hasWord) { tree.ref.owed++; }
             boolean isDone = false;
             try {
-                step(stack, tree.ref.reach, head | at.place << 8, 0, at.slot(), at.number(), user, value, null, at.letsOthersIn());
+                step(stack, tree.ref.reach, head | at.place << 8, 0, at.slot(), at.number(), user, value, null, at.letsOthersIn(), null);
                 isDone = stack.status == DONE;
             } finally {
                 if (!isDone) {
@@ -776,10 +806,10 @@ final class Engine {
         boolean isTold;
         synchronized (this) {
             values.makeRoom(1);
-            step(stack, at.tree.ref.reach, OPEN | LEAF << 16 | at.place << 8, 0, at.slot(), at.number(), 0, values.next(), item, WITH_ITEM | at.letsOthersIn());
+            step(stack, at.tree.ref.reach, OPEN | LEAF << 16 | at.place << 8, 0, at.slot(), at.number(), 0, values.next(), item, WITH_ITEM | at.letsOthersIn(), null);
             status = stack.status;
             isTold = stack.isBoth;
-            if (isTold || status == DONE) { leaf.has(memory.getLong(isTold ? MORE_CLOSINGS : NODE), memory.getLong((isTold ? MORE_CLOSINGS : NODE) + 8)); }
+            if (isTold || status == DONE) { leaf.has(memory.getLong(isTold ? WORDS : NODE), memory.getLong((isTold ? WORDS : NODE) + 8)); }
         }
         serve(stack, at.tree.ref.reach, at.tree, null);
         return isDone(status) && (isTold || next(leaf, at.tree, item));
@@ -852,7 +882,7 @@ final class Engine {
             }
             boolean isDone = false;
             try {
-                step(stack, reach, OPEN | at.place << 8 | share.kind << 16 | flags << 24 | (long) share.level << 32, share.hub, slot, number, user, share.word, null, at.letsOthersIn());
+                step(stack, reach, OPEN | at.place << 8 | share.kind << 16 | flags << 24 | (long) share.level << 32, share.hub, slot, number, user, share.word, null, at.letsOthersIn(), null);
                 isDone = stack.status == DONE;
             } finally {
                 if (!isDone) {

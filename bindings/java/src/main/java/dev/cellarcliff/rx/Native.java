@@ -14,13 +14,13 @@ final class Native {
     static final int DONE = 0, NO_MEMORY = 4, FULL = 16, GONE = 17, NOTHING_OWED = 20, NO_HUB = 22, HUB_ORDER = 23, TOO_MANY = 29,
         NO_STACK = 255;
     static final long UNKNOWN_HUB = -1;
-    /** Above a depth: others are let in as what is projected is answered; an item comes with what is opened. */
-    static final long LETS_IN = 1L << 61, WITH_ITEM = 1L << 60;
+    /** Above a depth: others are let in as what is projected is answered; an item comes with what is opened, or a leaf below it; the call further out goes on. */
+    static final long LETS_IN = 1L << 61, WITH_ITEM = 1L << 60, WITH_LEAF = 1L << 59, GOES_ON = 1L << 58;
 
     // bits of what a step answers, and places in the buffer
-    static final int HANDED = 1 << 8, OWN = 1 << 9, CARRIES = 1 << 10, MORE = 1 << 11, BOTH = 1 << 12, KIND = 16;
+    static final int HANDED = 1 << 8, OWN = 1 << 9, CARRIES = 1 << 10, MORE = 1 << 11, BOTH = 1 << 12, KIND = 16, NOTED = 24;
     static final int NODE = 0, OTHER = 16, IS_CONNECTED = 32, HUB = 40, COPIES = 48, CLOSED = 56, CLOSINGS = 64, ROOM = 8, TICKET = 144, USER = 160, VALUE = 168,
-        BY = 176, TOTALS = 192, MORE_CLOSINGS = 256;
+        BY = 176, TOTALS = 192, WORDS = 256, NOTED_WORDS = 768, NOTED_KINDS = 896, BEGUN = 904;
 
     static {
         Library.load();
@@ -43,8 +43,8 @@ final class Native {
     /** Gives back all that a desk has. No call on it comes behind this. */
     static native void drop(long desk);
     private static native ByteBuffer buffer(long desk);
-    static native long step(long desk, long by, long depth, long begun, long head, long hub, long slot, long number, long user, long value);
-    static native long next(long desk, long by, long depth, long begun);
+    static native long step(long desk, long by, long depth, long begun, long head, long hub, long slot, long number, long user, long value, long around);
+    static native long next(long desk, long by, long depth, long begun, long around);
     /** Gives an item that is being told: the ticket of the last that is told of it; 0 where it was refused or nobody hears it, less where there is no stack. */
     static native long give(long desk, long by, long depth, long begun, long slot, long number);
     static native void pass(long desk, long by, long depth, long begun, boolean now);

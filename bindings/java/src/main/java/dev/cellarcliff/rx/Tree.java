@@ -72,12 +72,15 @@ abstract class Tree {
      */
     static final class Releases {
         private boolean isEnd;
+        /** What names the tree to the native library, which may note its releases: at a disposal. */
+        long noted;
         /** What an eager release raised before an end. */
         Throwable failed;
         private Tag eager, first, last;
 
-        Releases around(boolean isEnd) {
+        Releases around(boolean isEnd, long noted) {
             this.isEnd = isEnd;
+            this.noted = noted;
             return this;
         }
 
