@@ -104,7 +104,7 @@ final class Bounded extends Merging {
                 Place at = Place.inner(this);
                 boolean isOpen;
                 if (source instanceof Supplier) {
-                    isOpen = Operator.openItem((Supplier<?>) source, at);
+                    isOpen = Operator.openItem((Supplier<?>) source, at, false);
                     tree.engine.leave(this);
                     done();
                 } else {

@@ -131,14 +131,17 @@ final class Engine {
             reach.leave();
             throw why;
         }
-        if (depth == 1) { active++; }
         stack.status = (int) told & 255;
         stack.isBoth = (told & BOTH) != 0;
+        if (stack.isBoth && (above & GOES_ON) != 0) { stack.depth--; }
+        if (depth == 1) { active++; }
         int copies = (told & (MORE | OWN)) == 0 ? 0 : (int) memory.getLong(COPIES);
         if ((told & MORE) != 0) { readClosings(stack, stack.isBoth ? NEXT : (int) head & 255, value); }
         if (copies > 0 && ((told & OWN) == 0 || toGoOn != null)) { values.put(value, copies); }
         note(stack, told, around);
+        boolean isAlone = (told & (HANDED | OWN | MORE)) == (HANDED | OWN) && toGoOn == null;
         hand(stack, reach, toGoOn == null ? told : goOn(stack, told), value, around);
+        stack.isOut = isAlone && stack.kind == E_PROJECT && reach.leaveAlone();
     }
 
     /** Has those that are to go on go on behind what stands in their lanes. What was handed out and not begun comes again. */
@@ -468,15 +471,19 @@ final class Engine {
 
     private long word(Tree tree, Thing thing) {
         Tree.Ref ref = tree.ref;
+        int many = thing == null ? 1 : thing.roles();
         if (ref.index < 0) { ref.index = trees.put(ref, 1); }
-        ref.owed++;
-        return (long) ref.index << 32 | (thing == null ? NO_THING : tree.things.put(thing, 1)) & 0xFFFF_FFFFL;
+        ref.owed += many;
+        return (long) ref.index << 32 | (thing == null ? NO_THING : tree.things.put(thing, many)) & 0xFFFF_FFFFL;
     }
 
     private void takeBack(long word) {
         Tree.Ref ref = trees.get((int) (word >>> 32));
-        if ((int) word != NO_THING) { ref.tree().things.take((int) word); }
-        settled(ref);
+        Thing thing = (int) word == NO_THING ? null : ref.tree().things.get((int) word);
+        for (int i = thing == null ? 1 : thing.roles(); i > 0; i--) {
+            if (thing != null) { ref.tree().things.take((int) word); }
+            settled(ref);
+        }
     }
 
     /** Gives a tree a guard; it has one beforehand. The lock is held. */
@@ -571,6 +578,7 @@ final class Engine {
         Thing closing = stack.closing;
         Throwable raised = null;
         stack.closing = null;
+        boolean isOut = false;
         try {
             for (boolean isFirst = true;; isFirst = false) {
                 boolean isHanded = stack.isHanded;
@@ -579,27 +587,37 @@ final class Engine {
                 Tree tree = stack.tree;
                 Thing thing = stack.thing;
                 Object value = stack.value;
+                isOut = stack.isOut;
+                stack.isOut = false;
                 stack.tree = null;
                 stack.thing = null;
                 stack.value = null;
                 if (isFirst && around == null) { raised = act(closing, raised); }
                 if (!isHanded) { break; }
+                boolean hasGone = false;
                 try {
                     if (around != null && kind == E_RELEASE && tree == of) {
                         around.add((Tag) thing);
                     } else {
                         tell(stack, kind, tree, thing, value);
+                        hasGone = stack.ends != null && endAndGoOn(stack, reach, (Merging) thing, isOut);
                     }
                 } catch (Throwable why) {
                     raised = from == stack.by || Errors.isFatal(why) ? Errors.raise(raised, why) : Errors.hear(raised, why);
                 }
                 stack.depth = depth;
-                synchronized (this) { next(stack, reach, around); }
+                if (!hasGone) {
+                    synchronized (this) {
+                        if (isOut) { enter(stack, reach.now()); }
+                        isOut = false;
+                        next(stack, reach, around);
+                    }
+                }
                 Reference.reachabilityFence(tree);  // what else its lane has finds it
             }
             if (around != null) { raised = act(closing, around.releaseEager(raised)); }
         } catch (Throwable why) {
-            stop(stack, reach, depth, of);
+            stop(stack, reach, isOut, depth, of);
             throw why;
         }
         stack.depth = depth - 1;
@@ -607,9 +625,29 @@ final class Engine {
         if (raised != null) { throw Errors.thrown(raised); }
     }
 
-    private void stop(Stack stack, Reach reach, long depth, Tree of) {
+    /** Ends the leaf of an item that was known at once, and has the call go on that projected it: whether by one crossing. */
+    private boolean endAndGoOn(Stack stack, Reach reach, Merging merging, boolean isOut) {
+        Leaf leaf = stack.ends;
+        stack.ends = null;
+        try {
+            synchronized (this) {
+                step(stack, reach, COMPLETE, 0, leaf.slot, leaf.number, 0, 0, null, GOES_ON, null);
+                if (stack.isBoth) {
+                    if (!isOut) { reach.now().leave(); }  // one call of two is over
+                    return true;
+                }
+            }
+            serve(stack, reach, merging.tree, null);
+        } catch (Throwable why) {
+            merging.fail(why);
+        }
+        return false;
+    }
+
+    private void stop(Stack stack, Reach reach, boolean isOut, long depth, Tree of) {
         stack.depth = depth;
         synchronized (this) {
+            if (isOut) { reach.now().enter(); }
             if (of != null) { pin(of); }
             Native.stop(desk, stack.by, depth, stack.begun);
             stopped(reach.now(), depth);
@@ -814,6 +852,26 @@ final class Engine {
         serve(stack, at.tree.ref.reach, at.tree, null);
         return isDone(status) && (isTold || next(leaf, at.tree, item));
     }
+
+    /**
+     * Opens a leaf that has no word for an item that is known at once and only heard, and tells it: whether it was open.
+     */
+    boolean openHeard(Place at, Leaf leaf, Object item) {
+        Stack stack = stacks.get();
+        int status;
+        synchronized (this) {
+            step(stack, at.tree.ref.reach, OPEN | LEAF << 16 | at.place << 8, 0, at.slot(), at.number(), 0, 0, null, at.letsOthersIn(), null);
+            status = stack.status;
+            if (status == DONE) { leaf.has(memory.getLong(NODE), memory.getLong(NODE + 8)); }
+        }
+        serve(stack, at.tree.ref.reach, at.tree, null);
+        if (!isDone(status)) { return false; }
+        leaf.onNext(item);
+        return true;
+    }
+
+    /** The leaf of what is projected ends as its call goes on. */
+    void endLast(Leaf leaf) { stacks.get().ends = leaf; }
 
     /** Reads the key of what was opened. The lock is held. */
     private void opened(Place at, Node node) {

@@ -28,6 +28,8 @@ final class Leaf extends Node implements Observer<Object>, FlowableSubscriber<Ob
     Reach reach;
     /** Until it is closed. */
     private volatile Tree tree;
+    /** Of one that is not told of its closing: above it. */
+    private Merging over;
     private volatile boolean hasEnded;
     private volatile Disposable upstream;
     /** Whoever asks it for items, a few at a time. */
@@ -42,7 +44,7 @@ final class Leaf extends Node implements Observer<Object>, FlowableSubscriber<Ob
         this.asker = at.asker();
     }
 
-    boolean isOpen() { return tree != null; }
+    boolean isOpen() { return tree != null && (over == null || !over.isClosed); }
 
     @Override void close(Engine by, int what, Object value) { tree = null; }
 
@@ -72,9 +74,10 @@ final class Leaf extends Node implements Observer<Object>, FlowableSubscriber<Ob
     private Object carried(Object item) { return chain == null ? item : new Through.Carried(item, chain); }
 
     /** Is opened with an item that is known at once, tells it, and ends: whether it was open. */
-    boolean openItem(Place at, Object item) {
-        if (!engine.openItem(at, this, carried(item))) { return false; }
-        onComplete();
+    boolean openItem(Place at, Object item, boolean isLast) {
+        over = at.over;
+        if (!(isHeard ? engine.openHeard(at, this, item) : engine.openItem(at, this, carried(item)))) { return false; }
+        if (isLast) { engine.endLast(this); } else { onComplete(); }
         return true;
     }
 

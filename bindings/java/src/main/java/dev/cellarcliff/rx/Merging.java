@@ -11,6 +11,8 @@ class Merging extends Node {
     final Through.Chain chain;
     final boolean isShared, isHeard;
     private final Function<Object, ?> mapper;
+    /** Read within an item that is told ahead, or under the lock. */
+    boolean isClosed;
 
     Merging(Place at, Function<Object, ?> mapper, boolean isSwitch) {
         this.tree = at.tree;
@@ -23,6 +25,11 @@ class Merging extends Node {
 
     /** Whether items that come as an inner source is opened are projected at once. */
     boolean letsOthersIn() { return true; }
+
+    /** Of its closing, and that nothing more is projected. */
+    @Override int roles() { return 2; }
+
+    @Override void close(Engine engine, int what, Object value) { isClosed = true; }
 
     /** Nothing more is projected. The lock is held. */
     void over() { }

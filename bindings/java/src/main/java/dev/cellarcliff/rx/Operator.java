@@ -35,7 +35,7 @@ interface Operator {
         if (source instanceof Operator) {
             ((Operator) source).open(at);
         } else if (source instanceof Supplier && at.over != null && !at.over.isSwitch) {
-            openItem((Supplier<?>) source, at);
+            openItem((Supplier<?>) source, at, true);
         } else {
             openLeaf(source, at);
         }
@@ -53,8 +53,8 @@ interface Operator {
         }
     }
 
-    /** One item, or none, that is known at once: whether its operator is open yet. */
-    static boolean openItem(Supplier<?> source, Place at) {
+    /** One item, or none, that is known at once: whether its operator is open yet. If it is the last of a projection it ends with that. */
+    static boolean openItem(Supplier<?> source, Place at, boolean isLast) {
         Engine engine = at.tree.engine;
         Object item;
         try {
@@ -64,7 +64,7 @@ interface Operator {
             return false;
         }
         if (item == null) { return engine.decline(at.over); }
-        return new Leaf(at).openItem(at, item);
+        return new Leaf(at).openItem(at, item, isLast);
     }
 
     /** How a connection ended, for who comes behind its end. */

@@ -80,6 +80,13 @@ final class Reach {
 
     void leave() { leave(1); }
 
+    /** The only call tells what has a lane of its own, and nothing stands behind that: until it goes on, it is as if there were none. */
+    boolean leaveAlone() {
+        if (calls > 1) { return false; }
+        leave();
+        return true;
+    }
+
     private void leave(int many) {
         if ((calls -= many) == 0) { STATE.setRelease(this, last == null ? 0 : last.idle); }
     }

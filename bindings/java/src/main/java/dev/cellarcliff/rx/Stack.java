@@ -16,6 +16,10 @@ final class Stack {
 
     int status, kind;
     boolean isHanded;
+    /** The leaf of an item that was known at once, which ends as the projection that is being told does. */
+    Leaf ends;
+    /** What is handed out is a projection, and its reach is left until that is done. */
+    boolean isOut;
     /** The item that came with what was opened is told as well. */
     boolean isBoth;
     /** Of what is handed out: whose tree, what of it, its value, and which thread's command it comes of. */

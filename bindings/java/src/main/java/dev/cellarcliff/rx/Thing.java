@@ -5,6 +5,9 @@ abstract class Thing {
     /** What the same command closed behind this. */
     Thing closedNext;
 
+    /** How often it is told something for the last time, but for a root's. */
+    int roles() { return 1; }
+
     /** The engine has closed it. The lock is held. */
     void close(Engine engine, int what, Object value) { }
 
