@@ -125,7 +125,7 @@ final class Bounded extends Merging {
             @Override void closed() { done(); }
         };
         Place below = at.below(node);
-        boolean isOpen = tree.engine.open(at, Native.OPEN | Native.PASS << 16 | Native.WISHES << 24, node, true, null);
+        boolean isOpen = tree.engine.open(at, Native.OPEN | Native.PASS << 16 | Native.WISHES << 24, node, true, null, null);
         if (isOpen) { below.open(source); }
         return isOpen;
     }

@@ -795,26 +795,28 @@ final class Engine {
     }
 
     /**
-     * Opens a node that has no word unless it is a thing of its tree, and that holds `tag` if there is one: whether it is open. What is
-     * projected is answered by that, so whatever comes meanwhile is projected at once, as RxJava does.
+     * Opens a node that has no word unless it is a thing of its tree, and that holds `tag` if there is one, and perhaps `leaf` as its source by the same
+     * crossing: whether the node is open. What is projected is answered by that, so whatever comes meanwhile is projected at once, as RxJava does.
      */
-    boolean open(Place at, int head, Node node, boolean hasWord, Tag tag) {
+    boolean open(Place at, int head, Node node, boolean hasWord, Tag tag, Leaf leaf) {
         Stack stack = stacks.get();
         Tree tree = at.tree;
         int status;
         synchronized (this) {
-            makeRoom(tree, 2);
+            makeRoom(tree, 3);
             if (tag != null) {
                 if (tree.releases == null) { tree.releases = new Tree.Releases(); }
                 guard(tree);
             }
-            long user = at.isRoot() || hasWord ? word(tree, hasWord ? node : null) : 0, value = tag == null ? 0 : word(tree, tag);
+            long user = at.isRoot() || hasWord ? word(tree, hasWord ? node : null) : 0, value = tag == null ? 0 : word(tree, tag), below = leaf == null ? 0 : word(tree, leaf);
             if (at.isRoot() && hasWord) { tree.ref.owed++; }
-            boolean isDone = false;
+            boolean isDone = false, isBoth = false;
             try {
-                step(stack, tree.ref.reach, head | at.place << 8, 0, at.slot(), at.number(), user, value, null, at.letsOthersIn(), null);
+                step(stack, tree.ref.reach, head | at.place << 8, below, at.slot(), at.number(), user, value, null, at.letsOthersIn() | (leaf == null ? 0 : WITH_LEAF), null);
                 isDone = stack.status == DONE;
+                isBoth = stack.isBoth;
             } finally {
+                if (leaf != null && !isBoth) { takeBack(below); }
                 if (!isDone) {
                     if (at.isRoot() && hasWord) { tree.ref.owed--; }
                     if (at.isRoot() || hasWord) { takeBack(user); }
@@ -823,8 +825,9 @@ final class Engine {
             }
             status = stack.status;
             if (isDone) {
-                opened(at, node);
-                if (history != null && tag != null) { history.name(memory.getLong(OTHER + 8), "resource " + tree.line); }
+                if (isBoth) { leaf.comesAlong(memory.getLong(NODE), memory.getLong(NODE + 8)); }
+                opened(at, node, isBoth ? WORDS : NODE);
+                if (history != null && tag != null) { history.name(memory.getLong(isBoth ? WORDS + 16 : OTHER + 8), "resource " + tree.line); }
                 if (hasWord) { node.opened(user); }
                 if (tag != null) { hold(tree, tag, 1); }
             }
@@ -874,8 +877,8 @@ final class Engine {
     void endLast(Leaf leaf) { stacks.get().ends = leaf; }
 
     /** Reads the key of what was opened. The lock is held. */
-    private void opened(Place at, Node node) {
-        node.has(memory.getLong(NODE), memory.getLong(NODE + 8));
+    private void opened(Place at, Node node, int key) {
+        node.has(memory.getLong(key), memory.getLong(key + 8));
         if (history != null && (at.isRoot() || node instanceof Share.Subscriber)) { history.name(node.number, at.tree.line); }
         if (at.isRoot()) {
             Root root = (Root) at.tree;
@@ -958,7 +961,7 @@ final class Engine {
                     share.connection = made;
                 }
                 node.join();
-                opened(at, node);
+                opened(at, node, NODE);
             } else if (status == NO_HUB) {
                 failed = moveOn(share);
             }

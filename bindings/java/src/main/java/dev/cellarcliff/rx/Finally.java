@@ -28,12 +28,13 @@ final class Finally extends Operator.Plain {
             @Override void release() throws Throwable { action.run(); }
         };
         Place below = at.below(node);
+        Leaf leaf = below.leafOf(source);
         boolean isHeld = false;
         try {
-            isHeld = at.tree.engine.open(at, Native.USING, node, false, held);
+            isHeld = at.tree.engine.open(at, Native.USING, node, false, held, leaf);
         } finally {
             if (!isHeld) { isNotOpened(); }
         }
-        if (isHeld) { below.open(source); }
+        if (isHeld) { below.open(source, leaf); }
     }
 }

@@ -30,6 +30,7 @@ final class Leaf extends Node implements Observer<Object>, FlowableSubscriber<Ob
     private volatile Tree tree;
     /** Of one that is not told of its closing: above it. */
     private Merging over;
+    private boolean comesAlong;
     private volatile boolean hasEnded;
     private volatile Disposable upstream;
     /** Whoever asks it for items, a few at a time. */
@@ -43,6 +44,14 @@ final class Leaf extends Node implements Observer<Object>, FlowableSubscriber<Ob
         this.reach = at.tree.ref.reach;
         this.asker = at.asker();
     }
+
+    /** It was opened with the node above. */
+    void comesAlong(long slot, long number) {
+        has(slot, number);
+        comesAlong = true;
+    }
+
+    boolean hasComeAlong() { return comesAlong; }
 
     boolean isOpen() { return tree != null && (over == null || !over.isClosed); }
 

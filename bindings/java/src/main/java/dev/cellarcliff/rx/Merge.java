@@ -38,7 +38,7 @@ final class Merge extends Operator.Plain {
         boolean isSwitch = manner == Manner.SWITCH;
         Merging merging = most == Integer.MAX_VALUE ? new Merging(at, mapper, isSwitch) : new Bounded(at, mapper, most, asks, manner == Manner.CONCAT);
         Place below = at.projected(merging);
-        if (!at.tree.engine.open(at, OPEN | (isSwitch ? SWITCH : FLAT) << 16 | WISHES << 24, merging, true, null)) { return; }
+        if (!at.tree.engine.open(at, OPEN | (isSwitch ? SWITCH : FLAT) << 16 | WISHES << 24, merging, true, null, null)) { return; }
         if (asks > 0) { Operator.openLeaf(source, below); } else { below.open(source); }  // what is asked for a few items is RxJava's
     }
 }

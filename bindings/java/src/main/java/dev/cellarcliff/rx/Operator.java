@@ -41,10 +41,14 @@ interface Operator {
         }
     }
 
-    @SuppressWarnings("unchecked")
     static void openLeaf(Object source, Place at) {
         Leaf leaf = new Leaf(at);
-        if (!at.tree.engine.open(at, OPEN | LEAF << 16 | WISHES << 24, leaf, true, null) || !leaf.isOpen()) { return; }
+        if (at.tree.engine.open(at, OPEN | LEAF << 16 | WISHES << 24, leaf, true, null, null)) { subscribe(source, leaf); }
+    }
+
+    @SuppressWarnings("unchecked")
+    static void subscribe(Object source, Leaf leaf) {
+        if (!leaf.isOpen()) { return; }
         try {
             if (source instanceof Publisher) { ((Publisher<Object>) source).subscribe(leaf); } else { ((ObservableSource<Object>) source).subscribe(leaf); }
         } catch (Throwable why) {
@@ -74,14 +78,14 @@ interface Operator {
             fail(at, error);
         } else {
             Leaf leaf = new Leaf(at);
-            if (at.tree.engine.open(at, OPEN | LEAF << 16, leaf, false, null)) { leaf.onComplete(); }
+            if (at.tree.engine.open(at, OPEN | LEAF << 16, leaf, false, null, null)) { leaf.onComplete(); }
         }
     }
 
     /** At this place stands what fails at once. */
     static void fail(Place at, Throwable why) {
         Leaf leaf = new Leaf(at);
-        if (at.tree.engine.open(at, OPEN | LEAF << 16, leaf, false, null)) { leaf.onError(why); } else { Errors.hear(why); }
+        if (at.tree.engine.open(at, OPEN | LEAF << 16, leaf, false, null, null)) { leaf.onError(why); } else { Errors.hear(why); }
         if (Errors.isFatal(why)) { throw Errors.thrown(why); }
     }
 }

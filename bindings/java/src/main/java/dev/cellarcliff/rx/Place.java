@@ -55,10 +55,15 @@ final class Place {
     /** What is opened here takes the place of another. */
     boolean isExchange() { return over != null && over.isSwitch; }
 
-    /** Opens what stands below a node. Where that raises something the node ends with it. */
-    void open(Object source) {
+    /** A leaf that may be opened with the node above, if what stands below that is one. */
+    Leaf leafOf(Object source) { return source instanceof Operator ? null : new Leaf(this); }
+
+    void open(Object source) { open(source, null); }
+
+    /** Opens what stands below a node, unless its leaf is open already. Where that raises something the node ends with it. */
+    void open(Object source, Leaf leaf) {
         try {
-            Operator.open(source, this);
+            if (leaf != null && leaf.hasComeAlong()) { Operator.subscribe(source, leaf); } else { Operator.open(source, this); }
         } catch (Throwable why) {
             tree.engine.abort(above, tree, why);
             throw why;

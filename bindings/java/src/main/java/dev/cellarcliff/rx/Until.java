@@ -14,7 +14,7 @@ final class Until extends Operator.Plain {
     @Override public void open(Place at) {
         Node node = new Node();
         Place first = at.notifier(node), second = at.below(node);
-        if (!at.tree.engine.open(at, Native.OPEN | Native.UNTIL << 16, node, false, null)) { return; }
+        if (!at.tree.engine.open(at, Native.OPEN | Native.UNTIL << 16, node, false, null, null)) { return; }
         first.open(notifier);
         second.open(source);
     }

@@ -30,7 +30,7 @@ final class Using extends Operator.Plain {
         Node node = new Node();
         Place source = at.below(node);
         if (at.isExchange()) {  // what stands there gives way before the resource is made
-            if (engine.open(at, Native.OPEN | Native.PASS << 16, node, false, null)) { source.open(this); }
+            if (engine.open(at, Native.OPEN | Native.PASS << 16, node, false, null, null)) { source.open(this); }
             return;
         }
         Resource resource = new Resource();
@@ -51,13 +51,14 @@ final class Using extends Operator.Plain {
             }
             return;
         }
+        Leaf leaf = source.leafOf(below);
         boolean isHeld = false;
         try {
-            isHeld = engine.open(at, Native.USING, node, false, resource);
+            isHeld = engine.open(at, Native.USING, node, false, resource, leaf);
         } finally {
             if (!isHeld) { resource.releaseNow(); }
         }
-        if (isHeld) { source.open(below); }
+        if (isHeld) { source.open(below, leaf); }
     }
 
     private final class Resource extends Tag {

@@ -11,12 +11,13 @@ import java.util.List;
 import java.util.concurrent.atomic.AtomicLong;
 
 /**
- * The same work over RxJava's own operators and over the engine's, in one JVM and in turns: Beside [ROUNDS]. Of each the nanoseconds of
- * processor time: the least of all rounds, and in brackets the median.
+ * The same work over RxJava's own operators and over the engine's, in one JVM and in turns: Beside [ROUNDS [WORD]]. Of each whose name has
+ * the word the nanoseconds of processor time: the least of all rounds, and in brackets the median.
  */
 public final class Beside {
     private static final ThreadMXBean BEAN = ManagementFactory.getThreadMXBean();
     private static long sink;
+    private static String only = "";
 
     private Beside() { }
 
@@ -82,6 +83,7 @@ public final class Beside {
 
     public static void main(String[] words) throws Exception {
         int rounds = words.length > 0 ? Integer.parseInt(words[0]) : 15;
+        only = words.length > 1 ? words[1] : "";
         System.out.printf("%-56s %18s %18s%n", "", "RxJava", "engine");
         row(rounds, 200_000, "an item: subject, map, using", () -> {
             PublishSubject<Integer> s = PublishSubject.create();
@@ -121,6 +123,7 @@ public final class Beside {
     }
 
     private static void row(int rounds, int many, String name, Case made) throws Exception {
+        if (!name.contains(only)) { return; }
         long[] theirs = new long[rounds], ours = new long[rounds];
         Work rxjava = made.make();
         Hooks.install();
