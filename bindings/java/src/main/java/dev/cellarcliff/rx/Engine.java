@@ -23,7 +23,7 @@ import java.util.concurrent.ConcurrentHashMap;
  * nothing fails.
  */
 final class Engine {
-    private static volatile Engine current = new Engine(new Spares(), 0, null);
+    private static volatile Engine current = new Engine(new Spares(), 0, null, true);
 
     /** The engine of what is subscribed to now. */
     static Engine current() { return current; }
@@ -32,11 +32,18 @@ final class Engine {
     static Engine renew() { return renew(0, null); }
 
     /** What comes from now on has an engine with a history of so many events. */
-    static Engine renew(int events, History history) { return current = new Engine(new Spares(), events, history); }
+    static Engine renew(int events, History history) { return current = new Engine(new Spares(), events, history, history == null); }
+
+    /** For tests: an engine that is given all items, and one of those that there are. */
+    static Engine renewWhole() { return current = new Engine(new Spares(), 0, null, false); }
+
+    static void use(Engine it) { current = it; }
 
     private final long desk;
     /** If it is kept. */
     private final History history;
+    /** Whether items that are only heard may be left out: where the history is kept, all stand in it. */
+    final boolean leavesOut;
     private final ByteBuffer memory;
     private final ThreadLocal<Stack> stacks = ThreadLocal.withInitial(Stack::new);
     private final Slots<Tree.Ref> trees = new Slots<>();
@@ -56,9 +63,10 @@ final class Engine {
     /** Those that have room for what waits, of which the engine was not told yet. */
     private Bounded toGoOn;
 
-    private Engine(Spares spares, int events, History history) {
+    private Engine(Spares spares, int events, History history, boolean leavesOut) {
         this.spares = spares;
         this.history = history;
+        this.leavesOut = leavesOut;
         desk = Native.open(events);
         if (desk == 0) { throw new OutOfMemoryError("cellarcliff: no memory for an engine"); }
         try {
@@ -105,7 +113,7 @@ final class Engine {
         }
 
         private Engine add(Share share) {
-            Engine it = new Engine(this, 0, null);
+            Engine it = new Engine(this, 0, null, true);
             latest = all.size();
             all.add(new WeakReference<>(it));
             share.tried++;
@@ -714,9 +722,6 @@ final class Engine {
     }
 
     // commands -------------------------------------------------------------------------------------------------------------------
-
-    /** Whether items that are only heard may be left out: where the history is kept, all stand in it. */
-    boolean leavesOut() { return history == null; }
 
     private static Throwable refused(int status) {
         return status == NO_MEMORY ? new OutOfMemoryError("cellarcliff: the engine was refused memory")

@@ -40,7 +40,7 @@ final class Leaf extends Node implements Observer<Object>, FlowableSubscriber<Ob
         this.engine = at.tree.engine;
         this.tree = at.tree;
         this.chain = at.chain;
-        this.isHeard = at.isHeard && engine.leavesOut();
+        this.isHeard = at.isHeard && engine.leavesOut;
         this.reach = at.tree.ref.reach;
         this.asker = at.asker();
     }

@@ -17,12 +17,13 @@ import java.util.concurrent.CyclicBarrier;
 import java.util.concurrent.atomic.AtomicInteger;
 
 /**
- * Programs made at random: Programs MANY [SEED] [beside|shared|wild|four]. Each is a few pipelines over subjects, and actions: an item, an end, a
+ * Programs made at random: Programs MANY [SEED] [beside|shared|wild|four|twice]. Each is a few pipelines over subjects, and actions: an item, an end, a
  * subscription, a disposal; observers act as well. Of every second seed the pipelines are Flowables.
  *
  * beside: no source has two observers, and no notifier ends as it is subscribed to; RxJava's own operators run the same program, and all that
  * is told, made and released is compared at every action. shared: with shares, and observers that push; how many programs RxJava tells otherwise is counted. wild: observers, mappers,
- * suppliers and releases push, end, subscribe, dispose and raise. four: the same, and four threads act at once. Of all each resource has to be released once, nobody is told
+ * suppliers and releases push, end, subscribe, dispose and raise. four: the same, and four threads act at once.
+ * twice: as wild, with all left out that needs no engine, and again with all given to it; all that happens has to be the same, in its order. Of all each resource has to be released once, nobody is told
  * anything behind an end or a disposal or within another item, and nothing may be left.
  */
 public final class Programs {
@@ -82,7 +83,7 @@ public final class Programs {
         @Override public String toString() { return what + " " + whom + " " + value; }
     }
 
-    enum Manner { BESIDE, SHARED, WILD, FOUR }
+    enum Manner { BESIDE, SHARED, WILD, FOUR, TWICE }
 
     /** What is made of a seed. */
     static final class Program {
@@ -107,7 +108,7 @@ public final class Programs {
             for (int i = 0; i < within.length; i++) { within[i] = random.nextInt(3) == 0 ? action(true) : new Action(Do.NOTHING, 0, 0); }
         }
 
-        boolean isWild() { return manner == Manner.WILD || manner == Manner.FOUR; }
+        boolean isWild() { return manner == Manner.WILD || manner == Manner.FOUR || manner == Manner.TWICE; }
 
         private Op op(int depth) {
             int number = random.nextInt(3);
@@ -440,10 +441,17 @@ public final class Programs {
         boolean isLoud = many == 1;
         int unlike = 0, faults = 0, told = 0;
         RxJavaPlugins.setErrorHandler(why -> { });
+        Engine leavesOut = Engine.current(), isGivenAll = Engine.renewWhole();
+        Engine.use(leavesOut);
         for (long at = seed; at < seed + many; at++) {
             Program program = new Program(at, manner);
             List<List<String>> theirs = program.isWild() ? null : new Run(program).go();
             Hooks.install();
+            if (manner == Manner.TWICE) {
+                Engine.use(isGivenAll);
+                theirs = new Run(program).go();
+                Engine.use(leavesOut);
+            }
             Run run = new Run(program);
             List<List<String>> ours = run.go();
             Hooks.uninstall();
@@ -452,9 +460,10 @@ public final class Programs {
             String left = Arrays.toString(Engine.current().counts());
             if (!left.equals("[0, 0, 0, 0, 0, 0]")) {
                 wrong.add("left " + left);
-                Engine.renew();
+                leavesOut = Engine.renew();
             }
-            boolean isUnlike = theirs != null && !apart(theirs).equals(apart(ours));
+            boolean isUnlike = theirs != null && !(manner == Manner.TWICE ? theirs.equals(ours) : apart(theirs).equals(apart(ours)));
+            if (isUnlike && manner == Manner.TWICE) { wrong.add("given to the engine it is otherwise"); }
             if (isUnlike) { unlike++; }
             if (!wrong.isEmpty()) { faults++; }
             if (isLoud || !wrong.isEmpty() && faults < 6 || isUnlike && manner == Manner.BESIDE && unlike < 6) {
