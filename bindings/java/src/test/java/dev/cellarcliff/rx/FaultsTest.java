@@ -295,21 +295,74 @@ class FaultsTest {
         expectReleased(2);
     }
 
-    /** An item that stands alone leaves it to the next call of the engine to end its own, whichever thread makes that. */
-    void whoever_comes_next_ends_the_call_of_an_item() throws Exception {
+    private static void inAnother(Runnable work) throws InterruptedException {
+        Thread thread = new Thread(work);
+        thread.start();
+        thread.join();
+    }
+
+    /** Items are told ahead of the engine by whichever thread comes, each within another's. */
+    void threads_take_turns_to_tell() throws Exception {
         PublishSubject<Integer> s = PublishSubject.create(), other = PublishSubject.create();
         List<Object> told = new ArrayList<>();
         Disposable[] given = {held(s).subscribe(told::add), held(other).subscribe(v -> {
             told.add(v);
-            s.onNext(v + 1);  // the call of this item goes on, that of the one within ends
+            s.onNext(v + 1);
         })};
-        for (Runnable each : List.<Runnable>of(() -> s.onNext(1), () -> s.onNext(2), () -> other.onNext(10), () -> s.onNext(3), given[1]::dispose, () -> s.onNext(4), given[0]::dispose)) {
-            Thread thread = new Thread(each);
-            thread.start();
-            thread.join();
-        }
+        for (Runnable each : List.<Runnable>of(() -> s.onNext(1), () -> s.onNext(2), () -> other.onNext(10), () -> s.onNext(3), given[1]::dispose, () -> s.onNext(4), given[0]::dispose)) { inAnother(each); }
         same(List.of(1, 2, 10, 11, 3, 4), told);
         expectReleased(2);
+    }
+
+    /** What a thread tells ahead is the engine's as another one comes there, and so is what it tells around that. */
+    void what_is_told_ahead_is_given_as_another_comes() throws Exception {
+        PublishSubject<Integer> s = PublishSubject.create(), other = PublishSubject.create(), more = PublishSubject.create();
+        List<Object> told = new ArrayList<>();
+        Disposable outer = held(s).subscribe(v -> {
+            told.add(v);
+            other.onNext(10 * v);
+            told.add(-v);
+        });
+        held(other.mergeWith(more)).subscribe(v -> {
+            told.add(v);
+            if (v != 10) { return; }
+            inAnother(() -> more.onNext(20));
+            inAnother(outer::dispose);
+            same(List.of(1, 10), told);  // both wait for what is being told
+            same(0, released.get());
+            same(false, s.hasObservers());
+        });
+        s.onNext(1);
+        same(List.of(1, 10, 20, -1), told);
+        same(1, released.get());
+        other.onComplete();
+        more.onComplete();
+        expectReleased(2);
+    }
+
+    /** Of an item that a share tells ahead each subscriber hears that was there, unless it leaves meanwhile. */
+    void a_share_changes_within_an_item() throws Exception {
+        PublishSubject<Integer> s = PublishSubject.create();
+        Observable<Integer> shared = held(s).share();
+        List<String> told = new ArrayList<>();
+        Disposable[] given = new Disposable[4];
+        for (int i = 0; i < 3; i++) {
+            int number = i;
+            given[i] = shared.subscribe(v -> {
+                told.add(number + ":" + v);
+                if (number != 1 || v != 2) { return; }
+                given[2].dispose();
+                given[3] = shared.subscribe(it -> told.add("3:" + it));
+                inAnother(() -> s.onNext(3));
+            });
+        }
+        s.onNext(1);
+        s.onNext(2);
+        s.onNext(4);
+        same(List.of("0:1", "1:1", "2:1", "0:2", "1:2", "0:3", "1:3", "3:3", "0:4", "1:4", "3:4"), told);
+        for (int i : new int[] {0, 1, 3}) { given[i].dispose(); }
+        expectReleased(1);
+        same(false, s.hasObservers());
     }
 
     void what_nobody_can_reach_is_released() throws Exception {
