@@ -96,7 +96,8 @@ static jboolean JNICALL fits_(STATIC) {
 
 static jlong JNICALL open_(STATIC, jint events) {
   UNUSED;
-  struct desk *desk = calloc(1, sizeof *desk);
+  struct desk *desk = malloc(sizeof *desk);
+  if (desk) *desk = (struct desk){0};
   if (desk && cellar_new(&desk->engine, (uint32_t)events)) {
     free(desk);
     desk = NULL;
