@@ -16,7 +16,8 @@ import java.util.concurrent.ConcurrentHashMap;
 
 /**
  * An engine of the library, and the objects for which its words stand. A command is made under the lock, and what it came to is read there;
- * what is to be done then is done outside it.
+ * what is to be done then is done outside it. An item that is only heard is told ahead of it, without the lock, and given to it as soon as something else
+ * comes: {@link Reach} has who is kept out by that.
  *
  * The lock is a monitor, which the JVM leaves whatever is raised, also where the stack has no room for a call. Each object that a
  * command needs is made before it, and a command is not made where the stack is short, so that between a command and what it hands out
@@ -655,6 +656,7 @@ final class Engine {
     private void stop(Stack stack, Reach reach, boolean isOut, long depth, Tree of) {
         stack.depth = depth;
         synchronized (this) {
+            isLeft = true;
             if (isOut) { reach.now().enter(); }
             if (of != null) { pin(of); }
             Native.stop(desk, stack.by, depth, stack.begun);

@@ -23,7 +23,8 @@ final class Root extends Tree implements Disposable {
 
     /** An item before its functions. */
     void next(Object it, Through.Chain chain) {
-        if (isStopped) { return; }
+        Observer<Object> told = down;
+        if (isStopped || told == null) { return; }
         Object item = it;
         if (chain != null) {
             try {
@@ -35,7 +36,7 @@ final class Root extends Tree implements Disposable {
             if (item == null || isStopped) { return; }
         }
         try {
-            down.onNext(item);
+            told.onNext(item);
         } catch (Throwable why) {
             dispose();
             throw why;
