@@ -121,7 +121,7 @@ typedef struct { Turn telling; PyObject *put_off; int lets_go; } Telling;
  * heard. */
 typedef struct { uint64_t floor; PyObject *behind; Core *closing; } Outer;
 
-/* This thread: how deep it is in calls of the package, what was raised meanwhile; the innermost turn, that of which an effect is told, how many
+/* This thread: how deep it is in calls of the package, what was raised meanwhile; the innermost turn, that of which an effect is told, and a release; how many
  * are further out than the innermost call of the package, and what comes behind the others; the engine of which closings are heard by that call, and
  * whether something waits for the last of them; and what sources put off: till the call further out goes on, or behind what is told; then its lane may
  * be let go. */
@@ -130,7 +130,7 @@ static _Thread_local struct Mine {
   Core *closing;
   uint64_t ident, floor;
   PyObject *errors, *trampoline, *put_off, *behind;
-  Turn turn, telling;
+  Turn turn, telling, releasing;
   Unmade *unmade; /* what it tells and did not make, innermost */
 } mine;
 /* Asked once on the way of an item: to find what is a thread's own takes a call each time. */
@@ -369,6 +369,12 @@ static int root_ended(Root *root, PyObject *error) {
 }
 /* A resource: a callable, or one in a tuple whose `dispose` is called. */
 static int release(PyObject *tag) { return plain(PyTuple_Check(tag) ? PyObject_CallMethodObjArgs(ITEM(tag, 0), s_dispose, NULL) : CALL0(tag)); }
+static int tell_release(struct Mine *here, PyObject *tag) {
+  Turn outer = here->releasing;
+  here->releasing = here->telling;
+  int status = release(tag);
+  return here->releasing = outer, status;
+}
 /* Does what an effect says. The engine keeps the word of whoever hears an item. */
 static int tell(struct Mine *here, Core *core, const struct cellar_effect *e) {
   PyObject *user = word(e->user), *value = e->carries && e->value ? word(e->value) : NULL;
@@ -380,7 +386,7 @@ static int tell(struct Mine *here, Core *core, const struct cellar_effect *e) {
     case CELLAR_E_COMPLETED: status = root_ended((Root *)ITEM(user, 0), NULL); break;
     case CELLAR_E_FAILED: status = root_ended((Root *)ITEM(user, 0), value); break;
     case CELLAR_E_GONE: ((Root *)ITEM(user, 0))->is_over = ((Root *)ITEM(user, 0))->is_stopped = 1; break;
-    case CELLAR_E_RELEASE: status = release(user); break;
+    case CELLAR_E_RELEASE: status = tell_release(here, user); break;
     case CELLAR_E_PUT: status = plain(CALL0(ITEM(user, 0))); break;
   }
   drop(user, status);
@@ -1040,6 +1046,7 @@ static int opened(Core *core, Opening *it) {
   if (c->flags & CELLAR_WISHES && reserve(core)) return -1;
   if (roles) c->user = (uintptr_t)thing, keep(core, thing, roles);
   Turn outer = begin(here, core);
+  if (it->is_exchange && here->releasing.core == core) calls.pass(&core->engine, &here->turn.stack, here->releasing.stack.depth, 1); /* the rest first */
   it->status = make(here, c, &s);
   if (it->status) {
     for (; roles; roles--) let_go(core, thing);

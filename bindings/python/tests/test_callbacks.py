@@ -415,6 +415,20 @@ class Small(Case):
             subscription.dispose()
             self.assertEqual(log, [("open", 1), ("close", 1), ("open", 3), ("close", 3)])
 
+    def test_what_a_release_puts_in_the_place_comes_behind_all_that_is_released(self):
+        for first, second in ("emits", "plain"), ("plain", "emits"):
+            subject, log = Subject(), []
+
+            def held(name, it):
+                log.append((name, it))
+                return Disposable(lambda: (log.append((f"{name} closed", it)), subject.on_next(3) if (name, it) == ("emits", 1) else None))
+            inner = lambda it: rx.using(lambda: held(first, it), lambda _: rx.using(lambda: held(second, it), lambda _: rx.never()))
+            subscription = subject.pipe(ops.flat_map_latest(inner)).subscribe()
+            subject.on_next(1)
+            subject.on_next(2)
+            subscription.dispose()
+            self.assertEqual([it for _, it in log], [1, 1, 1, 1, 3, 3, 3, 3])
+
     def test_an_item_as_old_as_the_span_is_one_of_the_last(self):
         clock, subject, told = TestScheduler(), Subject(), []
         subject.pipe(ops.take_last_with_time(0.5, scheduler=clock)).subscribe(told.append)

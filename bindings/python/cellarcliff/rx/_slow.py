@@ -36,6 +36,7 @@ class _Mine(threading.local):
     closing: Any = None    # the engine of which closings are heard, and whether something waits for the last of them
     is_late = False
     telling: Any = None    # the stack of which an effect is being told, and how deep that stands
+    releasing: Any = None  # the same of a release
     behind: Optional[Deque[Any]] = None  # what comes behind the outermost of the turns under way, if there is one
     errors: Optional[List[BaseException]] = None
     trampoline: Optional[Deque[Callable[[], Any]]] = None
@@ -71,7 +72,8 @@ def _enter(frame: Any) -> Any:
     has turns of its own."""
     is_outermost = not _runs(mine.outermost)
     if is_outermost:
-        mine.outermost, mine.closing, mine.telling, mine.behind, mine.errors, mine.put_off_ = frame, None, None, None, None, None
+        mine.outermost, mine.closing, mine.behind, mine.errors, mine.put_off_ = frame, None, None, None, None
+        mine.telling = mine.releasing = None
     outer = is_outermost, mine.behind, mine.closing
     mine.behind = mine.closing = None
     return outer
@@ -292,7 +294,11 @@ class Core:
         elif kind == E_GONE:
             thing[0].is_over = thing[0].is_stopped = True
         elif kind == E_RELEASE:
-            _release(thing)
+            outer, mine.releasing = mine.releasing, mine.telling
+            try:
+                _release(thing)
+            finally:
+                mine.releasing = outer
         elif kind == E_PUT:
             thing[0]()
 
@@ -324,6 +330,8 @@ class Core:
                 share.connection = Key((a[2], a[3]))
 
         def make(stack: Any, words: Tuple[int, ...]) -> Any:
+            if is_exchange and mine.releasing is not None and mine.releasing[0] is stack:
+                self.calls.let_pass(stack, mine.releasing[1], True)  # the rest first
             status, answer, handed = self.make(stack, words, 0, known, is_exchange)
             for it in first if not status else ():  # in its lane before anything is told
                 word = self._keep(it, _MANY) if it is not None else 0
