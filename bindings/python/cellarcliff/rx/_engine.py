@@ -56,7 +56,9 @@ class Totals(NamedTuple):
 class At:
     """A place at which an observable opens something."""
 
-    __slots__ = ("engine", "place", "above", "root", "scheduler", "top", "holder", "is_exchange", "node")
+    __slots__ = ("engine", "place", "above", "root", "scheduler", "top", "holder", "is_exchange", "node", "turns", "turn")
+    turns: Any  # of an exchange: how often something was opened there, in a list
+    turn: int  # and how often with this one
 
     def __init__(self, engine: "Engine", place: int, above: Any, root: Any, scheduler: Any, top: Any = None, holder: Any = None,
                  is_exchange: bool = False):
@@ -72,6 +74,11 @@ class At:
 
     def below(self, place: int, above: Any) -> "At":
         return At(self.engine, place, above, None, self.scheduler, self.top, self.holder)
+
+    def stands(self) -> None:
+        """Raises Refused("Gone") where what gave way here released something that put another in its place, or closed all: nothing is made for this."""
+        if self.turns[0] != self.turn or self.holder.is_stopped:
+            refuse(GONE)
 
     def inside(self, above: Any) -> "At":
         """The place below a node that has this source alone."""
@@ -90,23 +97,19 @@ class Engine:
         self.core.leaves_out = self.leaves_out and not max_events  # what is told may have to enter it, and may be refused by no bound
         self._process, self._calls = os.getpid(), None  # type: Any, Any
 
-    def open(self, at: At, kind: int, close: Any = None, project: Optional[Callable[[Any], Any]] = None, *first: Any, what: int = OPEN,
-             release: Any = None) -> Any:
+    def open(self, at: At, kind: int, close: Any = None, project: Optional[Callable[[Any], Any]] = None, *first: Any) -> Any:
         """Opens a node: `close` is a leaf that stops as it closes, or what is called then; `project` is given what a FlatMap or Switch
-        is to project; `first` is an item of the leaf, which stands in its lane before anything is told; `release` is called as its resource.
-        Raises Refused("Gone") where what gives way here releases something that puts another in its place: nothing is made for that."""
+        is to project; `first` is an item of the leaf, which stands in its lane before anything is told."""
         root = at.root
-        if close is None and at.is_exchange:
-            close = Leaf(self.core)
         if close is not None:
             if type(close) is not Leaf:
                 call, close = close, Leaf(self.core)
                 close.on_closed = call
             close.above, at.holder = at.holder, close
-        what |= at.place | kind if close is None else at.place | kind | WISHES
-        at.node = self.core.open(what, at.above, None if root is close is project is None else (root, close, project), release, at.is_exchange, *first)
-        if at.is_exchange and close.is_stopped:
-            refuse(GONE)
+        what = at.place | kind if close is None else at.place | kind | WISHES
+        at.node = self.core.open(what, at.above, None if root is close is project is None else (root, close, project), None, at.is_exchange, *first)
+        if at.is_exchange:
+            at.stands()
         return at.node
 
     def source(self, at: At, holds: bool = False) -> Any:
@@ -132,7 +135,11 @@ class Engine:
 
     def finally_(self, at: At, action: Callable[[], Any]) -> At:
         """Opens a node, as whose resource this is called: the place below it."""
-        return at.inside(self.open(at, LEAF, what=USING, release=action))
+        root = at.root
+        at.node = self.core.open(USING | at.place, at.above, None if root is None else (root, None, None), action, at.is_exchange)
+        if at.is_exchange:
+            at.stands()
+        return at.inside(at.node)
 
     def hold(self, node: Any, call: Callable[..., Any], *given: Any) -> Any:
         """Calls this, and lets the node hold what it answers; where the node is closed that is released at once."""

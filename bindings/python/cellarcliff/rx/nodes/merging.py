@@ -40,6 +40,9 @@ class Merging(Observable[Any]):
                 if not isinstance(observable, Observable):
                     observable = to_observable(observable)
                 if not node_is.is_stopped:
+                    if is_switch:
+                        turns[0] += 1
+                        at.turns, at.turn = turns, turns[0]
                     C.projected(observable._open, at)
             except Refused as why:
                 if why.name not in ("Gone", "NothingOwed"):
@@ -49,7 +52,7 @@ class Merging(Observable[Any]):
             except BaseException:
                 engine.decline(node)
                 raise
-        scheduler, top = at.scheduler, at.top
+        scheduler, top, turns = at.scheduler, at.top, [0]
         node = engine.open(at, SWITCH if is_switch else FLAT, node_is, project)
         open_below(self._source, at.below(SOURCE, node))
 
