@@ -625,7 +625,7 @@ class Subject:
 
     def __del__(self) -> None:
         """Nobody can tell its subscribers anything any more: those that hear of nothing else go."""
-        for leaf in tuple(self._ups):
+        for leaf in tuple(getattr(self, "_ups", ())):  # an interrupt may have come before there are any
             root = leaf.alone
             if root is not None:
                 root.unsubscribe()
