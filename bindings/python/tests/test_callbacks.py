@@ -251,6 +251,17 @@ class Releases(Case):
                     self.assertEqual([released for _, released in told], [False], (name, place, what))
                     self.assertTrue(told[0][0].is_released)
 
+    def test_an_end_that_goes_through_functions_in_the_midst(self):
+        """Also where a timer tells it, which the engine holds: its release is the first."""
+        for source in (lambda clock: rx.timer(1.0, scheduler=clock)), (lambda clock: rx.interval(1.0, scheduler=clock).pipe(ops.take(1))):
+            for behind, item in (ops.map(lambda it: it), 0), (ops.to_list(), [0]), (ops.last(), 0):
+                clock, log = TestScheduler(), []
+                held = rx.using(lambda: Disposable(lambda: log.append("released")),
+                                lambda _: source(clock).pipe(ops.take_until(Subject()), ops.map(lambda it: it)))
+                held.pipe(behind).subscribe(log.append, None, lambda: log.append("completed"))
+                clock.advance_by(2)
+                self.assertEqual(log, [item, "completed", "released"])
+
     def test_items_at_an_end_that_comes_of_an_item(self):
         behind = {"a list": lambda it: it.pipe(ops.buffer_with_count(2)), "the last": lambda it: it.pipe(ops.element_at(0), ops.last()),
                   "a list of a window": lambda it: it.pipe(ops.window_with_count(2), ops.flat_map(lambda part: part.pipe(ops.to_list()))),

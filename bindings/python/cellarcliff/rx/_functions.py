@@ -223,9 +223,10 @@ class _Relay:
                 self._engine.decline(self._node)
 
     def _source_closed(self) -> None:
-        """The source is closed. If it failed, or something further out closed it, so is all else; what was projected comes first."""
+        """The source is closed. If it failed, or something further out closed it, so is all else; what was projected comes first, and so does
+        what the source held: else the release of what holds all of it would not wait for the end."""
         if not self.node_is.is_stopped:
-            self._engine.put(self._node, self._over, True)
+            C.behind(lambda: self._engine.put(self._node, self._over, True))
 
     def _over(self) -> None:
         if self._leaf is not None:
