@@ -33,6 +33,7 @@ export class Crossing {
   #level = 0; #ofLevel = 0; #queued = 0; // how many items so far came each of the one before; what is left of the last of them; what waits behind that
   #ahead = []; #many = 0; #given = 0; // items that are told ahead, outermost first; how many there are, and how many of them were given
   #more = false; // whether behind a root that has gone something else was handed out
+  #letsGo = 0; // of the call whose projection others are to overtake, how deep it is, until a command asks for that
   #isCalm = true; // while calls are under way: whether no lane has anything but what they tell
   #lingering = null; #lastHears = null; // what told the last item, to which observer, where its source may have more of the same go
   dead = null; // why no command can be made any more
@@ -118,6 +119,7 @@ export class Crossing {
   // Gives a command, with room for all that comes of it if there is so much.
   #make(what, slot, top, lo, hi, user, value, opens = false) {
     if (this.#given !== this.#many) this.#gives();
+    else if (this.#letsGo !== 0 && !opens) this.#goes();
     const depth = this.#depth + 1;
     let status;
     this.#is_begun = true;
@@ -129,6 +131,7 @@ export class Crossing {
   /** The same of one that reads its node alone. */
   #makeOf(what, { slot, top, lo, hi }, opens = false) {
     if (this.#given !== this.#many) this.#gives();
+    else if (this.#letsGo !== 0 && what !== COMPLETE) this.#goes();
     const depth = this.#depth + 1;
     let status;
     this.#is_begun = true;
@@ -254,6 +257,7 @@ export class Crossing {
   }
   // Gives what is told ahead, outermost first: what comes next is within that.
   #gives() {
+    if (this.#letsGo !== 0) this.#goes();
     while (this.#given < this.#many) {
       const it = this.#ahead[this.#given], { node: { slot, top, lo, hi } } = it, depth = this.#depth + 1;
       let status;
@@ -284,6 +288,7 @@ export class Crossing {
     if (this.#level > MOST) throw new RangeError(`cellarcliff: ${MOST} items came each from within the one before`);
     this.line = null;
     this.begins();
+    if (this.#letsGo !== 0) this.#goes();
     const word = this.#values.next(), depth = this.#depth + 1;
     let status;
     try { status = this.#glue.next(depth, node.slot, node.top, node.lo, node.hi, word); } catch (error) { throw this.#failed(error); }
@@ -548,8 +553,19 @@ export class Crossing {
     try { (this.#realm.report ?? later)(error); } catch { this.#postpone(() => (this.#realm.report ?? later)(error)); }
   }
 
-  /** Lets others go on behind the projection that is being told, so that one from within an inner observable comes at once. */
+  /** Lets others go on behind what is being told, so that what is told from within comes at once. */
   letGo() { this.#pass(this.#depth, 0); }
+  /** Does it, within which others go on behind the projection that is being told: the engine is told so before a command that may lead to one. */
+  lettingGo(act, inner, at) {
+    if (this.#letsGo !== 0) this.#goes();
+    this.#letsGo = this.#depth;
+    try { act(inner, at); } finally { this.#letsGo = 0; }
+  }
+  #goes() {
+    const depth = this.#letsGo;
+    this.#letsGo = 0;
+    try { this.#glue.pass(this.#depth + 1, depth, 0); } catch (error) { throw this.#failed(error); }
+  }
   #pass(depth, now) {
     if (this.#given !== this.#many) this.#gives();
     try { this.#glue.pass(this.#depth + 1, depth, now); } catch (error) { throw this.#failed(error); }

@@ -25,8 +25,7 @@ class Projects {
   start(thing, value) {
     let inner;
     try { inner = innerFrom(this.call(value, this.index++)); } catch (error) { return realm.engine.fail(thing, error); }
-    if (!isSilent(inner)) realm.engine.letGo();
-    openAt(inner, this.place);
+    if (isSilent(inner)) openAt(inner, this.place); else realm.engine.lettingGo(openAt, inner, this.place);
   }
   project(thing, value) { this.start(thing, value); }
   shut() { this.is_over = true; }
@@ -52,8 +51,7 @@ class Switches extends Projects {
       return;
     }
     this.is_leaf = isLeaf(inner);
-    if (!isSilent(inner)) realm.engine.letGo();
-    openAt(inner, at);
+    if (isSilent(inner)) openAt(inner, at); else realm.engine.lettingGo(openAt, inner, at);
   }
 }
 /** So many at a time; items that wait are owed to the engine, which so keeps the node open. */
