@@ -1,5 +1,5 @@
 // TakeUntil of the engine, and what leaves out items until another observable tells.
-import { NOTIFIER, SOURCE, UNTIL } from '../engine/codes.mjs';
+import { NOTIFIER, ROOT, SOURCE, UNTIL } from '../engine/codes.mjs';
 import { Inner, Stage, TERMINAL, failing, stops } from '../core/leaf.mjs';
 import { realm } from '../engine/realm.mjs';
 import { Link } from '../core/link.mjs';
@@ -12,11 +12,13 @@ import { innerFrom } from '../sources/from.mjs';
 /** An item of a notifier is the end; within what is merged what that releases is released before it is counted. The end of a notifier says nothing: it
  *  only leaves. */
 class Notifies extends Stage {
+  has_told = false;
   constructor(up, ends) {
     super(up, true);
     this.ends = ends;
   }
   next(value, leaf) {
+    this.has_told = true;
     if (this.ends !== null) {
       realm.engine.room(true);
       stops(leaf);
@@ -24,7 +26,16 @@ class Notifies extends Stage {
     }
     this.up.next(value, leaf);
   }
+  error(error, leaf) {
+    this.has_told = true;
+    this.up.error(error, leaf);
+  }
   complete(leaf) { leaf.unsubscribe(); }
+}
+/** Knows whether a node has closed. */
+class Closes {
+  is_over = false;
+  shut() { this.is_over = true; }
 }
 
 // What a notifier holds besides its leaf is a tree of its own, which is left at its end.
@@ -37,12 +48,16 @@ function notifies(other, place) {
 
 export function takeUntil(notifier) {
   return operator((at, source) => {
-    const other = innerFrom(notifier), place = settled(at), body = { over: false, shut() { this.over = true; } }, thing = place && openNode(place, UNTIL, body);
-    if (!thing) return;
-    const ends = place._inner && new Inner(null, place._inner), below = new Place(SOURCE, thing, null, place._way, null, ends);
+    const other = innerFrom(notifier), place = settled(at);
+    if (place === null) return;
+    // of a root the observer knows that it is over, or the notifier does
+    const body = place._place === ROOT ? null : new Closes(), thing = openNode(place, UNTIL, body);
+    if (thing === null) return;
+    const ends = place._inner && new Inner(null, place._inner), below = new Place(SOURCE, thing, null, place._way, null, ends), way = new Notifies(TERMINAL, ends);
     if (ends !== null) ends.beside = new Inner(null, MERGED);
-    try { notifies(other, new Place(NOTIFIER, thing, null, new Notifies(TERMINAL, ends), null, ends && ends.beside)); } catch (error) { return unopenedAt(below, error); }
-    if (thing !== LEFT && !body.over) openAt(source, below);
+    try { notifies(other, new Place(NOTIFIER, thing, null, way, null, ends && ends.beside)); } catch (error) { return unopenedAt(below, error); }
+    const is_over = body === null ? way.has_told || place._hears.closed : body.is_over;
+    if (thing !== LEFT && !is_over) openAt(source, below);
   });
 }
 
