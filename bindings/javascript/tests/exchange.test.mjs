@@ -213,6 +213,19 @@ export const tests = {
       try { source.subscribe().unsubscribe(); } catch (error) { say([error.name, ...error.errors.map((it) => it.message)]); }
     }
   }, [['UnsubscriptionError', 'a', 'b'], ['UnsubscriptionError', 'c']], ([both, one]) => inAnyOrder(['UnsubscriptionError', 'a', 'b'])(both) && one[1] === 'c'),
+  'two items from within, of which the second comes of the one before the first': test((rx, say) => {
+    const s = new rx.Subject();
+    s.subscribe((it) => { say(`a ${it}`); if (it === 0) s.next(1); });
+    s.subscribe((it) => { say(`b ${it}`); if (it === 0) s.next(2); });
+    s.next(0);
+  }, ['a 0', 'b 0', 'b 1', 'b 2', 'a 1', 'a 2'], undefined, ['a 0', 'a 1', 'b 1', 'b 0', 'a 2', 'b 2']),
+  'who comes to a BehaviorSubject while an item waits hears that once': test((rx, say) => {
+    const s = new rx.BehaviorSubject(0);
+    let other = null;
+    s.subscribe((it) => { if (it === 1) s.next(2); });
+    s.subscribe((it) => { if (it === 1) other ??= s.subscribe(say); });
+    s.next(1);
+  }, [2]),
   'a subject throws at once what its observer throws, where a program wants that': test((rx, say) => {
     const subject = new rx.Subject();
     rx.config.useDeprecatedSynchronousErrorHandling = true;

@@ -36,7 +36,7 @@ export class Subject extends Observable {
     this._first = this._last = null; // its leaves, in a ring of their own
     this._size = 0;
     this._list = null; // all of them, until one comes or goes
-    this._telling = null; // an item that some of several have not heard yet
+    this._telling = null; // an item that some of several have not heard yet, and behind it those that were told from within
   }
 
   static create(destination, source) { return new AnonymousSubject(destination, source); }
@@ -68,22 +68,41 @@ export class Subject extends Observable {
     if (config.useDeprecatedSynchronousErrorHandling) inContext(() => this._tellsItem(value)); else this._tellsItem(value);
   }
   _tellsItem(value) {
-    if (!this._tells()) return;
-    if (this._size > 1) {
-      this._telling = { value, leaves: this._all(), at: 0 };
-      this._goOn();
-    } else if (this._first !== null) this._first.next(value);
+    if (this.isStopped) return;
+    if (this._size > 1 || this._telling !== null) this._tellsAll({ value, leaves: this._all(), at: 0, has_begun: false, behind: null });
+    else if (this._first !== null) this._first.next(value);
   }
-  /** Tells an item to those that have not heard it. What is told from within comes behind it: for each of them, who so hears all in order. */
+  /** Tells an item to all who hear it, behind those that were told before. */
+  _tellsAll(item) {
+    if (this._telling === null) this._telling = item;
+    else {
+      let last = this._telling;
+      while (last.behind !== null) last = last.behind;
+      last.behind = item;
+    }
+    try { this._goOn(); } finally { if (!item.has_begun) this._takesBack(item); }
+  }
+  // For want of stack.
+  _takesBack(item) {
+    let before = this._telling;
+    if (before === item) this._telling = item.behind;
+    else while (before !== null && before.behind !== item) before = before.behind;
+    if (before !== null && before !== item) before.behind = item.behind;
+  }
+  /** Tells items to those that have not heard them. What is told from within comes behind those that were told before it: for each of them, who so hears
+   *  all in order. */
   _goOn() {
-    const telling = this._telling, { value, leaves } = telling;
-    try {
-      realm.engine.looks(); // for those that are told without the engine
-      while (telling.at < leaves.length) {
-        const leaf = leaves[telling.at++];
-        if (leaf._lone > IN_ENGINE && leaf._way === TERMINAL && !leaf.isStopped) loneNextOfMany(leaf, value); else leaf.next(value);
-      }
-    } finally { if (this._telling === telling) this._telling = null; }
+    realm.engine.looks(); // for those that are told without the engine
+    for (let telling; (telling = this._telling) !== null;) {
+      const { value, leaves } = telling;
+      telling.has_begun = true;
+      try {
+        while (telling.at < leaves.length) {
+          const leaf = leaves[telling.at++];
+          if (leaf._lone > IN_ENGINE && leaf._way === TERMINAL && !leaf.isStopped) loneNextOfMany(leaf, value); else leaf.next(value);
+        }
+      } finally { if (this._telling === telling) this._telling = telling.behind; }
+    }
   }
   error(error) {
     this._throwIfClosed();

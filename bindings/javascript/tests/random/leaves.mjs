@@ -45,18 +45,22 @@ function remembered(subject) {
 }
 /** Over a subject, which remembers what its kind does; each who hears it waits for itself, or does not. */
 export function inLeaves(rx, subject, waits) {
-  const leaves = [], is_last = subject instanceof rx.AsyncSubject;
-  let telling = null;
+  const leaves = [], telling = [], is_last = subject instanceof rx.AsyncSubject;
   const goesOn = () => {
-    const it = telling;
-    try { while (it.at < it.leaves.length) it.act(it.leaves[it.at++]); } finally { if (telling === it) telling = null; }
+    while (telling.length) {
+      const it = telling[0];
+      try { while (it.at < it.leaves.length) it.act(it.leaves[it.at++]); } finally { if (telling[0] === it) telling.shift(); }
+    }
   };
   const tells = (remember, act) => {
-    if (telling) goesOn();
     if (subject.isStopped) return;
     remember();
-    telling = { act, leaves: [...leaves], at: 0 };
+    telling.push({ act, leaves: [...leaves], at: 0 });
     goesOn();
+  };
+  const ends = (remember, act) => {
+    goesOn();
+    tells(remember, act);
   };
   const made = new rx.Observable((to) => {
     const leaf = waits ? new Leaf(to) : to;
@@ -67,8 +71,8 @@ export function inLeaves(rx, subject, waits) {
   });
   return Object.assign(made, {
     next: (value) => tells(() => subject.next(value), (leaf) => { if (!is_last) leaf.next(value); }),
-    error: (error) => tells(() => subject.error(error), (leaf) => leaf.error(error)),
-    complete: () => tells(() => subject.complete(), (leaf) => {
+    error: (error) => ends(() => subject.error(error), (leaf) => leaf.error(error)),
+    complete: () => ends(() => subject.complete(), (leaf) => {
       if (is_last) for (const value of remembered(subject)) leaf.next(value);
       leaf.complete();
     }),
