@@ -1,4 +1,4 @@
-// The errors that operators make.
+// The errors that operators make. A bundle has those that it can come to: a call that is marked pure may be left out.
 
 const named = (name, message) => {
   const Made = class extends Error {
@@ -11,11 +11,11 @@ const named = (name, message) => {
   return Made;
 };
 
-export const ArgumentOutOfRangeError = named('ArgumentOutOfRangeError', 'argument out of range');
-export const EmptyError = named('EmptyError', 'no elements in sequence');
-export const NotFoundError = named('NotFoundError', (message) => message);
-export const ObjectUnsubscribedError = named('ObjectUnsubscribedError', 'object unsubscribed');
-export const SequenceError = named('SequenceError', (message) => message);
+export const ArgumentOutOfRangeError = /* @__PURE__ */ named('ArgumentOutOfRangeError', 'argument out of range');
+export const EmptyError = /* @__PURE__ */ named('EmptyError', 'no elements in sequence');
+export const NotFoundError = /* @__PURE__ */ named('NotFoundError', (message) => message);
+export const ObjectUnsubscribedError = /* @__PURE__ */ named('ObjectUnsubscribedError', 'object unsubscribed');
+export const SequenceError = /* @__PURE__ */ named('SequenceError', (message) => message);
 
 /** No item came in time; `info` says which were told before. */
 export class TimeoutError extends Error {

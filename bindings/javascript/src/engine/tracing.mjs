@@ -5,9 +5,9 @@ const ROW = /^\s+at (?:(.*?) \()?(?:async )?((?:file|node|https?):[^)]*?|[^ )]*?
 const FAR = 60; // so many rows, since those of the package come first
 const NEAR = 2; // of `subscribe` and of who calls it
 /** The folder of the package, as stacks have it: what lies there is not the program's. */
-const own = (/(?:file:\/\/)?((?:https?:\/\/[^\s/()]+)?\/?[^\s()]*?)\/(?:src|dist)\//.exec((new Error().stack ?? '').replace(/^.*\n/, '')) ?? [null, null])[1];
+const folder = () => (/(?:file:\/\/)?((?:https?:\/\/[^\s/()]+)?\/?[^\s()]*?)\/(?:src|dist)\//.exec((new Error().stack ?? '').replace(/^.*\n/, '')) ?? [null, null])[1];
 
-let near = NEAR;
+let near = NEAR, ownFolder;
 
 /** Before the stack of who subscribes is taken within `subscribe`: rows are dear, so it has few where a line of the program calls that. Answers
  *  the limit that was there. */
@@ -44,7 +44,10 @@ function far(words) {
 }
 
 const path = (file) => file.replace(/^file:\/\//, '');
-const isOwn = (file) => file.startsWith('node:') || file.includes('/node_modules/rxjs/') || (own !== null && (file.startsWith(`${own}/src/`) || file.startsWith(`${own}/dist/`)));
+function isOwn(file) {
+  const own = ownFolder === undefined ? ownFolder = folder() : ownFolder;
+  return file.startsWith('node:') || file.includes('/node_modules/rxjs/') || (own !== null && (file.startsWith(`${own}/src/`) || file.startsWith(`${own}/dist/`)));
+}
 
 /** The innermost line of the program in a stack: its file, line, column and function; null where there is none. */
 export function placeOf(error) {

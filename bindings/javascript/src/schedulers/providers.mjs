@@ -7,13 +7,13 @@ const provider = (set, clear) => ({
   clear(handle) { return (this.delegate?.clear ?? clear)(handle); },
 });
 
-export const timeouts = provider((...words) => globalThis.setTimeout(...words), (handle) => globalThis.clearTimeout(handle));
-export const intervals = provider((...words) => globalThis.setInterval(...words), (handle) => globalThis.clearInterval(handle));
+export const timeouts = /* @__PURE__ */ provider((...words) => globalThis.setTimeout(...words), (handle) => globalThis.clearTimeout(handle));
+export const intervals = /* @__PURE__ */ provider((...words) => globalThis.setInterval(...words), (handle) => globalThis.clearInterval(handle));
 
 // What comes before the next turn: by promises.
 let nextHandle = 1;
 const waiting = new Set();
-export const immediates = provider((act) => {
+export const immediates = /* @__PURE__ */ provider((act) => {
   const handle = nextHandle++;
   waiting.add(handle);
   Promise.resolve().then(() => waiting.delete(handle) && act());
