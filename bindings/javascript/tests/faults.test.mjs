@@ -45,6 +45,11 @@ export const tests = {
     rx.of(1).pipe(rx.repeat({ count: 200000 }), rx.count()).subscribe(say);
   }, ['RangeError: cellarcliff: what was repeated came 100000 times at once', 'RangeError: cellarcliff: what was repeated came 100000 times at once',
     'RangeError: cellarcliff: 100000 expansions came each at once within the one before', 200000], ['unhandled Maximum call stack size exceeded']),
+  'an inner observable ends as a function has its item in hand': test((rx, say) => {
+    const inner = new rx.BehaviorSubject(1), failing = new rx.BehaviorSubject(2);
+    rx.merge(rx.NEVER, rx.of(0)).pipe(rx.mergeMap(() => inner), rx.tap(() => inner.complete())).subscribe(say);
+    rx.of(0).pipe(rx.mergeMap(() => failing), rx.map((it) => { failing.error('no'); return it; })).subscribe({ next: say, error: say });
+  }, [1, 2, 'no'], [1, 'no']),
   'what retry repeats fails at once and its teardown throws': test((rx, say) => {
     const fails = new rx.Observable((to) => { say('made'); to.error(new Error('no')); return () => { throw new Error('x'); }; });
     fails.pipe(rx.retry(1)).subscribe({ error: ({ message }) => say(`error ${message}`) });

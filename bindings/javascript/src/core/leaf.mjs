@@ -10,6 +10,7 @@ import { UnsubscriptionError } from './errors.mjs';
 export const TERMINAL = {
   hooked: false,
   next(value, leaf) {
+    leaf._inHand = false;
     if (leaf._lone !== IN_ENGINE) loneNext(leaf, value);
     else if (leaf._many) realm.engine.nextOfMany(leaf, value);
     else realm.engine.next(leaf, value);
@@ -90,6 +91,8 @@ export class Leaf extends Subscriber {
     this._inner = inner;
     this.hears = hears; // where this leaf is the whole tree, else null
     this._subject = this._before = this._after = null; // whose list it is on, and between which
+    this._inHand = false; // whether functions pass an item on that it has not told yet, of what is merged; and what end comes behind that
+    this._late = null;
     this._many = false; // whether its source tells items in one go
     this._lone = IN_ENGINE; // or how it stands with a root that needs no engine, its place among those, and what waits there
     this._at = 0;
@@ -102,16 +105,30 @@ export class Leaf extends Subscriber {
     if (this.isStopped) return stopped(errorOf(error), this);
     realm.engine.room(this._way.hooked);
     this.isStopped = true;
-    this._error(error);
+    if (this._inHand) this._late = () => this._error(error); else this._error(error);
   }
   complete() {
     if (this.isStopped) return stopped(COMPLETION, this);
     realm.engine.room(this._way.hooked);
     this.isStopped = true;
-    this._complete();
+    if (this._inHand) this._late = () => this._complete(); else this._complete();
   }
 
-  _next(value) { this._way.next(value, this); }
+  _next(value) { if (this._inner === null || this._way === TERMINAL) this._way.next(value, this); else this._passes(value); }
+  // An end that comes from within a function on an item is told behind that item: others may go on where this leaf is merged.
+  _passes(value) {
+    const outer = this._inHand;
+    this._inHand = true;
+    try { this._way.next(value, this); } finally {
+      this._inHand = outer;
+      if (!outer && this._late !== null) this._endsLate();
+    }
+  }
+  _endsLate() {
+    const late = this._late;
+    this._late = null;
+    if (!this.closed) realm.engine.surely(late);
+  }
   _error(error) { this._way.error(error, this); }
   _complete() { this._way.complete(this); }
 
