@@ -115,10 +115,10 @@ const FLAT = {
 const AGAIN = {
   catchError: ['i', ({ rx }, i) => rx.catchError(i)],
   repeat: ['n', ({ rx, mends }, n) => oneAtATime(rx, mends, rx.repeat(n))],
-  'repeat with a delay': ['no', ({ rx, mends, turns }, n, o) => oneAtATime(rx, mends, rx.repeat({ count: n, delay: () => (turns(), behind(rx, mends, o)) }))],
+  'repeat with a delay': ['no', ({ rx, mends, turns }, n, o) => oneAtATime(rx, mends, repeating(rx, mends, (delay) => rx.repeat({ count: n, delay: () => (turns(), delay(o)) })))],
   repeatWhen: ['no', ({ rx, mends }, n, o) => oneAtATime(rx, mends, rx.repeatWhen((ends) => rx.concatMap(() => o)(ends).pipe(rx.take(n))))],
   retry: ['n', ({ rx, mends }, n) => oneAtATime(rx, mends, rx.retry(n))],
-  'retry with a delay': ['nob', ({ rx, mends, turns }, n, o, b) => oneAtATime(rx, mends, rx.retry({ count: n, delay: () => (turns(), behind(rx, mends, o)), resetOnSuccess: b }))],
+  'retry with a delay': ['nob', ({ rx, mends, turns }, n, o, b) => oneAtATime(rx, mends, repeating(rx, mends, (delay) => rx.retry({ count: n, delay: () => (turns(), delay(o)), resetOnSuccess: b })))],
   retryWhen: ['no', ({ rx, mends }, n, o) => oneAtATime(rx, mends, rx.retryWhen((ends) => rx.concatMap(() => o)(ends).pipe(rx.take(n))))],
   onErrorResumeNext: ['o', ({ ops }, o) => ops.onErrorResumeNext(o)],
 };
@@ -205,8 +205,20 @@ const leavesItsSource = ({ rx, mends }, connected) => (mends.has('connect') ? (s
   to.add(() => ended.next());
   return source.pipe(rx.takeUntil(ended), connected).subscribe(to);
 }) : connected);
-/** With the mend `behind` what it tells as it is subscribed to comes as soon as that has returned. */
-const behind = (rx, mends, notifier) => (mends.has('behind') ? new rx.Observable((to) => {
+/** With the mend `behind` what a notifier tells as it is subscribed to comes as soon as that has returned, where its source has ended as that was subscribed to. */
+const repeating = (rx, mends, repeats) => (mends.has('behind') ? (source) => rx.defer(() => {
+  let is_in = false, is_at_once = false;
+  const told = (act) => { is_at_once = is_in; act(); };
+  const known = new rx.Observable((to) => {
+    const whole = new rx.Subscriber({ next: (it) => to.next(it), error: (error) => told(() => to.error(error)), complete: () => told(() => to.complete()) });
+    to.add(whole);
+    is_in = true;
+    source.subscribe(whole);
+    is_in = false;
+  });
+  return repeats((notifier) => (is_at_once ? behind(rx, notifier) : notifier))(known);
+}) : repeats((notifier) => notifier));
+const behind = (rx, notifier) => new rx.Observable((to) => {
   let is_in = true, told = null;
   const tells = (act) => { if (!is_in) act(); else { told ??= act; whole.unsubscribe(); } };
   const whole = new rx.Subscriber({ next: (it) => tells(() => to.next(it)), error: (error) => tells(() => to.error(error)), complete: () => tells(() => to.complete()) });
@@ -214,7 +226,7 @@ const behind = (rx, mends, notifier) => (mends.has('behind') ? new rx.Observable
   notifier.subscribe(whole);
   is_in = false;
   told?.();
-}) : notifier);
+});
 
 /** With the mend `asked` the answer that ends it is the last for which it asks. */
 const askingOnce = ({ rx, mends }, asking, ask, last) => (mends.has('asked') ? (source) => rx.defer(() => {
