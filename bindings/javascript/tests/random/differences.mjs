@@ -4,7 +4,7 @@
 import { acts, hasWord, isOfSeveral } from './asked.mjs';
 import { LEFT } from './left.mjs';
 import { EARLIER, FOLLOWED, ORDERS, isSharing, orderOf } from './orders.mjs';
-import { ENDS } from './mix.mjs';
+import { ENDS, SHARING } from './mix.mjs';
 import { TELLS, compared, isHeard } from './running.mjs';
 import { PUT_OFF, isPutOff } from './within.mjs';
 
@@ -26,7 +26,7 @@ export const MANNERS = {
   'what a callback tells from within comes as soon as it has returned': [(it) => acts(it, ...TELLS), { puts_off: TELLS }],
   'what is told from within to one who is being told comes behind that': [(it) => acts(it, ...TELLS), { leaves: 'subjects' }],
   'what is told from within to an observer that is being told comes behind that': [(it) => acts(it, ...TELLS), { leaves: 'roots' }],
-  'what is told from within to an observer, or an operator that ends by itself, that is being told comes behind that': [(it) => acts(it, ...TELLS) && hasWord(it.whole, (name) => name in ENDS), { leaves: 'ends' }],
+  'what is told from within to an observer, a share, or an operator that ends by itself, that is being told comes behind that': [(it) => acts(it, ...TELLS) && hasWord(it.whole, (name) => name in ENDS || name in SHARING), { leaves: 'ends' }],
   'what is told from within to an observer, or by an observable within another, that is being told comes behind that': [(it) => acts(it, ...TELLS), { leaves: 'inners' }],
   'what is told from within to an observer, or a function, that is being told comes behind that': [(it) => acts(it, ...TELLS), { leaves: 'places' }],
   'what comes of a subscription from within comes as soon as the callback has returned': [(it) => acts(it, 'subscribe'), { puts_off: ['subscribe'] }],

@@ -171,7 +171,7 @@ const LISTS = {
   windowWhen: ['on', ({ rx, clock }, o, m) => rx.pipe(rx.windowWhen(() => rx.timer(1, clock).pipe(rx.concatWith(o))), flattened(rx, m))],
 };
 
-const SHARING = {
+export const SHARING = {
   share: ['', (at) => at.rx.share(connector(at))],
   'share with words': ['bbbo', (at, e, c, z, o) => sharing(at, { ...connector(at), resetOnError: e, resetOnComplete: c }, z ? null : o)],
   shareReplay: ['nb', ({ rx }, n, refCount) => rx.shareReplay({ bufferSize: n + 1, refCount })],

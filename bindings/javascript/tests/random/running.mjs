@@ -1,7 +1,7 @@
 // What comes of a pipeline over a library: all that happens, in its order, each line with the step in which it happened.
 import { HOTS, WHERE } from './drawing.mjs';
 import { finalizing, inLeaves, releasing, waiting } from './leaves.mjs';
-import { ENDS, OPERATORS, SOURCES } from './mix.mjs';
+import { ENDS, OPERATORS, SHARING, SOURCES } from './mix.mjs';
 
 const MOST = 400; // lines; beyond it a pipeline runs on, and is left out
 
@@ -21,8 +21,8 @@ export const TELLS = ['next', 'complete', 'error'];
 
 export class Run {
   /** In another manner than a library's own: callbacks do these kinds of acts as soon as the step has returned (`puts_off`); what a release throws
-   *  is lost (`hushes`); who is being told something hears the rest behind that, by each subscription to a subject, each observer, each operator that ends by
-   *  itself, each inner observable besides, or each function (`leaves`); what is followed by something is released first (`releases`),
+   *  is lost (`hushes`); who is being told something hears the rest behind that, by each subscription to a subject, each observer, each share or operator
+   *  that ends by itself, each inner observable besides, or each function (`leaves`); what is followed by something is released first (`releases`),
    *  or what ends by itself (`quits`); the program mends what RxJS does wrong (`mends`: mix.mjs). */
   constructor(rx, ops, it, { puts_off = [], hushes = false, leaves = '', releases = false, quits = false, mends = new Set() } = {}) {
     Object.assign(this, { rx, ops, it, puts_off, hushes, leaves, releases, quits, mends });
@@ -112,8 +112,8 @@ export class Run {
   }
   operator([name, ...words]) {
     if (this.releases && isFollowed(name)) return this.rx.pipe(releasing(this.rx), this.made(OPERATORS[name], words));
-    if (name in ENDS) {
-      const made = this.made(OPERATORS[name], words), waits = this.leaves === 'ends' ? [waiting(this.rx)] : [], quits = this.quits ? [releasing(this.rx)] : [];
+    if (name in ENDS || name in SHARING) {
+      const made = this.made(OPERATORS[name], words), waits = this.leaves === 'ends' ? [waiting(this.rx)] : [], quits = this.quits && name in ENDS ? [releasing(this.rx)] : [];
       return this.rx.pipe(...waits, made, ...quits);
     }
     if (this.leaves !== 'places' || !hasPlace(name)) return this.made(OPERATORS[name], words);
