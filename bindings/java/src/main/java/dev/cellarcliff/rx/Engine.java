@@ -927,9 +927,8 @@ final class Engine {
         Stack stack = stacks.get();
         Tree tree = at.tree;
         Share.Subscriber node = new Share.Subscriber(share, at);
-        Connection made = share.kind == SHARED ? new Connection(share, this) : null;
-        if (made != null) { made.line = tree.line; }
-        Place source = made == null ? null : Place.source(made);
+        Connection made = null;
+        Place source = null;
         boolean isConnected = false;
         Throwable failed = null;
         int status;
@@ -937,6 +936,11 @@ final class Engine {
             if (share.engine != this) { return NO_HUB; }
             if (share.hasEnded) { return ENDED; }
             meet(share);
+            if (share.kind == SHARED && !share.hasSubscriber()) {  // who comes first connects it
+                made = new Connection(share, this);
+                made.line = tree.line;
+                source = Place.source(made);
+            }
             makeRoom(tree, 1);
             guard(tree);
             Reach reach = join(stack, tree.ref.reach.now(), share.reach.now());

@@ -58,8 +58,15 @@ final class Share {
     /** A tree that has it, if there is one. */
     Tree anyTree() { return first == null ? connection : first.tree; }
 
+    boolean hasSubscriber() { return first != null; }
+
     /** A subscription of which the lane can be another's too: one that has nothing but this share. */
     Subscriber beside() { return first != null && first.isAlone ? first : null; }
+
+    private void count(Subscriber one, int change) {
+        if (heard != null) { heard = null; }
+        if (one.isAlone) { alone += change; } else { others += change; }
+    }
 
     /** Looks for those who hear an item of its source, where nothing else comes of that: whether that is so. In other lanes their order is the engine's. */
     boolean makeHeard() {
@@ -103,8 +110,7 @@ final class Share {
         }
 
         void join() {
-            share.heard = null;
-            if (isAlone) { share.alone++; } else { share.others++; }
+            share.count(this, 1);
             if (isAlone) {
                 after = share.first;
                 if (after == null) { share.last = this; } else { after.before = this; }
@@ -117,8 +123,7 @@ final class Share {
         }
 
         @Override void close(Engine engine, int what, Object value) {
-            share.heard = null;
-            if (isAlone) { share.alone--; } else { share.others--; }
+            share.count(this, -1);
             if (before == null) { share.first = after; } else { before.after = after; }
             if (after == null) { share.last = before; } else { after.before = before; }
             before = after = null;
