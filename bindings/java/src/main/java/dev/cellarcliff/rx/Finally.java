@@ -28,9 +28,10 @@ final class Finally extends Operator.Plain {
             @Override void release() throws Throwable { action.run(); }
         };
         Place below = at.below(node);
-        Leaf leaf = below.leafOf(source);
+        Leaf leaf = null;
         boolean isHeld = false;
         try {
+            leaf = below.leafOf(source);
             isHeld = at.tree.engine.open(at, Native.USING, node, false, held, leaf);
         } finally {
             if (!isHeld) { isNotOpened(); }

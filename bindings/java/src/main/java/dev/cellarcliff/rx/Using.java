@@ -51,9 +51,10 @@ final class Using extends Operator.Plain {
             }
             return;
         }
-        Leaf leaf = source.leafOf(below);
+        Leaf leaf = null;
         boolean isHeld = false;
         try {
+            leaf = source.leafOf(below);
             isHeld = engine.open(at, Native.USING, node, false, resource, leaf);
         } finally {
             if (!isHeld) { resource.releaseNow(); }
