@@ -121,7 +121,8 @@ class WatchedEngines(unittest.TestCase):
             return made(size)
         with mock.patch.object(ctypes, "create_string_buffer", beside):
             history = self.engine.history()
-        self.assertEqual(json.loads(history), [["open", "root", "leaf"]] + 9 * [["item", 0, 0]])
+        told = [it for it in json.loads(history) if it[0] != "hub"]  # an engine may make hubs whenever it likes
+        self.assertEqual(told, [["open", "root", "leaf"]] + 9 * [["item", 0, 0]])
 
     @unittest.skipIf(is_model(), "the model makes no checkpoint")
     def test_a_history_that_is_cut_is_none(self):
