@@ -106,8 +106,10 @@ class WatchedEngines(unittest.TestCase):
     def test_its_places_are_those_of_the_history(self):
         rx.using(connect, lambda _: rx.never()).subscribe()
         subscription, resource = self.engine.open_now()
-        self.assertTrue(self.engine.history().startswith('[["open","root","pass"],["accept",0'), self.engine.history())
-        self.assertEqual((subscription.node, resource.node), (0, 0))
+        history = json.loads(self.engine.history())
+        place = history.index(["open", "root", "pass"])  # behind the hubs that an engine may make whenever it likes
+        self.assertIn(["accept", place], [it[:2] for it in history])
+        self.assertEqual((subscription.node, resource.node), (place, place))
 
     @unittest.skipIf(is_model(), "the model has no dump of an engine")
     def test_an_item_that_comes_while_a_history_is_asked_for_takes_nothing_away(self):
